@@ -1,0 +1,8 @@
+-- The laws, a file a kind of loop or of number.
+pub mod Tests
+pub mod Sums
+pub mod Search
+pub mod Filled
+pub mod InPlace
+pub mod Fold
+pub mod Sizes

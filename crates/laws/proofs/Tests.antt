@@ -1,0 +1,98 @@
+-- Laws of `each`, a test of every number below n, and of `holds`, a list of tests. Assumes nothing.
+use Prim.Native.Nat.{ℕ, zero, suc, _+_, _≤_, _<_}
+use mathlib.Core.Path.{_≡_, refl, sym, _∙_}
+use mathlib.Core.Bool.{Bool, true, false, not, _&&_, _||_, cond}
+use mathlib.Core.List.{List, [], _∷_}
+use mathlib.Core.Logic.{⊎-elim}
+use native.Mathlib.Nat.{lt-suc-self, le-step, le-antisymm, eq-or-lt-of-le, le-of-suc-le-suc, not-suc-le-zero}
+use native.Mathlib.Numerals.{add-one}
+use native.Mathlib.Omega.{arith}
+use lib.ListN.{getD}
+use Rattle.laws.specs.Tests.{each, holds}
+
+-- ---- tests joined by and, or
+
+pub and-both : {a b : Bool} → a ≡ true → b ≡ true → (a && b) ≡ true
+and-both p q = rw (p, q)
+
+pub and-left : (a b : Bool) → (a && b) ≡ true → a ≡ true
+and-left true b e = refl
+and-left false b e = e
+
+pub and-right : (a b : Bool) → (a && b) ≡ true → b ≡ true
+and-right true b e = e
+and-right false b e = cc
+
+pub and-fails : (a b : Bool) → b ≡ false → (a && b) ≡ false
+and-fails true b e = e
+and-fails false b e = refl
+
+pub or-left : (a b : Bool) → a ≡ true → (a || b) ≡ true
+or-left true b e = refl
+or-left false b e = cc
+
+pub or-right : (a b : Bool) → b ≡ true → (a || b) ≡ true
+or-right true b e = refl
+or-right false b e = e
+
+-- a test is not both
+pub clash : {b : Bool} → b ≡ true → b ≡ false → ⊥
+clash {b} p q = let z : _≡_ {A = ℕ} 0 1 = cc in omega arith
+
+-- ---- a loop that tests each number: it begins, a turn, it is done, it is left at i
+
+pub each-none : (f : ℕ → Bool) → each 0 f ≡ true
+unfolding each
+each-none f = refl
+
+pub each-more : (f : ℕ → Bool) (i : ℕ) → each i f ≡ true → f i ≡ true → each (i + 1) f ≡ true
+unfolding each
+each-more f i a h = rw add-one (and-both a h)
+
+pub each-done : (f : ℕ → Bool) (i n : ℕ) → i ≤ n → n ≤ i → each i f ≡ true → each n f ≡ true
+each-done f i n p q a = rw (le-antisymm q p) a
+
+pub each-fails : (f : ℕ → Bool) (i n : ℕ) → i < n → f i ≡ false → each n f ≡ false
+unfolding each
+each-fails f i zero l e = absurd (not-suc-le-zero l)
+each-fails f i (suc n) l e =
+    ⊎-elim (λ q. and-fails (each n f) (f n) (rw q at e))
+    (λ k. rw (each-fails f i n k e))
+    (eq-or-lt-of-le (le-of-suc-le-suc l))
+
+-- what the whole says of each, and what each says of the whole
+pub each-at : (f : ℕ → Bool) (n i : ℕ) → each n f ≡ true → i < n → f i ≡ true
+unfolding each
+each-at f zero i a l = absurd (not-suc-le-zero l)
+each-at f (suc n) i a l =
+    ⊎-elim (λ q. rw q (and-right (each n f) (f n) a))
+    (λ k. each-at f n i (and-left (each n f) (f n) a) k)
+    (eq-or-lt-of-le (le-of-suc-le-suc l))
+
+pub each-all : (f : ℕ → Bool) (n : ℕ) → ((i : ℕ) → i < n → f i ≡ true) → each n f ≡ true
+unfolding each
+each-all f zero h = refl
+each-all f (suc n) h = and-both (each-all f n (λ i l. h i (le-step l))) (h n (lt-suc-self n))
+
+-- ---- a list of tests
+
+-- the tests as facts
+abbrev pub Each : List Bool → Type 0
+Each [] = Unit {0}
+Each (b ∷ bs) = (b ≡ true) × Each bs
+
+pub holds-each : (bs : List Bool) → holds bs ≡ true → Each bs
+unfolding holds
+holds-each [] e = tt
+holds-each (b ∷ bs) e = (and-left b (holds bs) e, holds-each bs (and-right b (holds bs) e))
+
+pub all-hold : (bs : List Bool) → Each bs → holds bs ≡ true
+unfolding holds
+all-hold [] w = refl
+all-hold (b ∷ bs) w = and-both (w .0) (all-hold bs (w .1))
+
+pub one-fails : (bs : List Bool) (k : ℕ) → getD bs k true ≡ false → holds bs ≡ false
+unfolding holds
+one-fails [] k e = e
+one-fails (b ∷ bs) zero e = rw e
+one-fails (b ∷ bs) (suc k) e = and-fails b (holds bs) (one-fails bs k e)

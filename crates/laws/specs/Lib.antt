@@ -1,0 +1,4 @@
+-- What the loops of the other crates compute.
+pub mod Lists
+pub mod Sums
+pub mod Tests

@@ -1,0 +1,7 @@
+-- Sums over the numbers below n. Assumes nothing.
+use Prim.Native.Nat.{ℕ, zero, suc, _+_}
+
+-- f 0 + f 1 + .. + f (n - 1)
+unfoldable pub Sum : ℕ → (ℕ → ℕ) → ℕ
+Sum zero f = 0
+Sum (suc n) f = Sum n f + f n

@@ -1,0 +1,14 @@
+-- Tests of every number below n, and of every item of a list. Assumes nothing.
+use Prim.Native.Nat.{ℕ, zero, suc}
+use mathlib.Core.Bool.{Bool, true, _&&_}
+use mathlib.Core.List.{List, [], _∷_}
+
+-- f holds of each number below n
+unfoldable pub each : ℕ → (ℕ → Bool) → Bool
+each zero f = true
+each (suc n) f = each n f && f n
+
+-- every test of a list holds
+unfoldable pub holds : List Bool → Bool
+holds [] = true
+holds (b ∷ bs) = b && holds bs
