@@ -1,13 +1,13 @@
 -- What the machine reads back from a signed number's bits is the number; and its test of a sign. Assumes nothing.
 use mathlib.Core.Path.{_≡_, refl, sym, ap, subst}
 use mathlib.Core.Bool.{true, false, not}
-use Prim.Native.Nat.{zero, suc, _^_, _<_}
+use Prim.Native.Nat.{ℕ, zero, suc, _^_, _<_}
 use native.Mathlib.Nat.{lt-of-le-of-lt}
 use native.Mathlib.Omega.{arith}
 use borrow.Author.Tests.{le-ltb}
-use lib.Dec.{T}
+use lib.Dec.{T, leb, leb·suc-zero, leb·suc-suc}
 use lib.IntN.{+ℤ-idl, ℤ, pos, negsuc, negℤ, natAbs, _-ℤ_}
-use lib.Signed.{nonNeg, ltZ}
+use lib.Signed.{nonNeg, ltZ, leZ}
 use mir.Syntax.{Width}
 use mir.Val.{SFits, hbits, toZ, ofZ}
 use mir.Facts.{toZ-ofZ}
@@ -42,3 +42,13 @@ not-negative (negsuc n) e = absurd (subst T e tt)
 
 pub from-zero : (z : ℤ) → pos 0 -ℤ z ≡ negℤ z
 from-zero z = +ℤ-idl (negℤ z)
+
+-- -n ≤ z, of a negative z; and z ≤ n, of another: by z's size
+pub size-below : (z : ℤ) (n : ℕ) → not (nonNeg z) ≡ true → leZ (negℤ (pos n)) z ≡ leb (natAbs z) n
+size-below (pos a) n e = cc
+size-below (negsuc a) zero e = sym (leb·suc-zero a)
+size-below (negsuc a) (suc n) e = sym (leb·suc-suc a n)
+
+pub size-above : (z : ℤ) (n : ℕ) → not (nonNeg z) ≡ false → leZ z (pos n) ≡ leb (natAbs z) n
+size-above (pos a) n e = refl
+size-above (negsuc a) n e = cc

@@ -3,6 +3,7 @@ ghost use mathlib.Core.Path.{_≡_};
 ghost use mathlib.Core.Bool.{not};
 ghost use Prim.Native.Nat.{_+_, _-_, _*_, _/_, _^_, _≤_, _<_, min, max};
 ghost use lib.IntN.{pos, natAbs, _+ℤ_, _-ℤ_, _*ℤ_};
+ghost use lib.Dec.{leb};
 ghost use lib.Signed.{nonNeg};
 ghost use Rattle.numbers.specs.Scales.{turn, halfTurn, sectors, intEnd};
 ghost use Rattle.numbers.specs.Whole.{signedOf, heldWithin, heldFromZero, circularDistance};
@@ -64,6 +65,17 @@ impl Int {
     {
         let x = self.v;
         x < 0
+    }
+
+    // Whether the number lies in -most..most.
+    pub fn at_most(self, most: u32) -> bool
+        ensures { λ r. ⌜ r ≡ leb (natAbs (self .v)) most ⌝ }
+    {
+        let x = self.v;
+        if x < 0 {
+            return 0 - (most as i64) <= x;
+        }
+        x <= (most as i64)
     }
 
     // The number without its sign.
