@@ -161,7 +161,8 @@ pub fn remainder(z: Int, m: u32) -> u32
     ensures { λ r. ⌜ (r ≡ Whole·remainder (z .v) m) × (r < m) ⌝ }
 {
     let divisor = m as u64;
-    if z.negative() {
+    let closing = z.negative();
+    if closing {
         (divisor - 1 - (z.magnitude() - 1) % divisor) as u32
     } else {
         (z.magnitude() % divisor) as u32
