@@ -2,8 +2,9 @@
 use Prim.Native.Nat.{ℕ, zero, suc, _+_, _*_, _≤_, _<_, zero-le}
 use mathlib.Core.Path.{_≡_, refl, sym, _∙_}
 use mathlib.Core.Bool.{Bool, true, false, cond}
+use mathlib.Core.Logic.{⊎-elim}
 use native.Mathlib.Omega.{arith}
-use native.Mathlib.Nat.{le-refl, lt-suc-self, le-step, le-antisymm, le-of-eq, add-le-add, suc-mul, ne-of-lt, le-add-right, le-trans, mul-le-mul-right}
+use native.Mathlib.Nat.{le-refl, lt-suc-self, le-step, le-antisymm, le-of-eq, add-le-add, suc-mul, ne-of-lt, le-add-right, le-trans, mul-le-mul-right, eq-or-lt-of-le, le-of-suc-le-suc, not-suc-le-zero}
 use native.Mathlib.Numerals.{add-one}
 use lib.Dec.{eqb, ltb}
 use borrow.Author.Tests.{eqb-true, eqb-false, ltb-true, ltb-false, lt-ltb, le-ltb, ne-eqb}
@@ -28,6 +29,17 @@ sum-le (suc n) f g h =
     let a : Sum n f ≤ Sum n g = sum-le n f g (λ i l. h i (le-step l)) in
     let b : f n ≤ g n = h n (lt-suc-self n) in
     omega arith
+
+-- one of them less: the sum is less
+pub sum-less : (n k : ℕ) (f g : ℕ → ℕ) → k < n → f k < g k → ((i : ℕ) → i < n → f i ≤ g i) → Sum n f < Sum n g
+unfolding Sum
+sum-less zero k f g l h a = absurd (not-suc-le-zero l)
+sum-less (suc n) k f g l h a =
+    let b : f n ≤ g n = a n (lt-suc-self n) in
+    ⊎-elim
+    (λ e. let c : f n < g n = rw e at h in omega (arith, sum-le n f g (λ i m. a i (le-step m))))
+    (λ m. omega (arith, sum-less n k f g m h (λ i j. a i (le-step j))))
+    (eq-or-lt-of-le (le-of-suc-le-suc l))
 
 pub sum-add : (n : ℕ) (f g : ℕ → ℕ) → Sum n (λ i. f i + g i) ≡ Sum n f + Sum n g
 unfolding Sum

@@ -8,7 +8,7 @@ use native.Mathlib.Nat.{lt-suc-self, le-step, le-antisymm, eq-or-lt-of-le, le-of
 use native.Mathlib.Numerals.{add-one}
 use native.Mathlib.Omega.{arith}
 use lib.ListN.{getD}
-use Rattle.laws.specs.Tests.{each, holds}
+use Rattle.laws.specs.Tests.{each, holds, refuse}
 
 -- ---- tests joined by and, or
 
@@ -34,6 +34,15 @@ or-left false b e = cc
 pub or-right : (a b : Bool) → b ≡ true → (a || b) ≡ true
 or-right true b e = refl
 or-right false b e = e
+
+-- a, or where a fails b
+pub or-else : (a b : Bool) → (a ≡ false → b ≡ true) → (a || b) ≡ true
+or-else true b h = refl
+or-else false b h = h refl
+
+pub or-second : (a b : Bool) → (a || b) ≡ true → a ≡ false → b ≡ true
+or-second true b e f = cc
+or-second false b e f = e
 
 -- a test is not both
 pub clash : {b : Bool} → b ≡ true → b ≡ false → ⊥
@@ -96,3 +105,9 @@ unfolding holds
 one-fails [] k e = e
 one-fails (b ∷ bs) zero e = rw e
 one-fails (b ∷ bs) (suc k) e = and-fails b (holds bs) (one-fails bs k e)
+
+-- ---- a chain of refusals: no number comes of it just where each test holds
+
+pub refuse-none : (k : ℕ) (ok : Bool) (rest : ℕ) → refuse (suc k) ok rest ≡ 0 → (ok ≡ true) × (rest ≡ 0)
+refuse-none k true rest e = (refl, e)
+refuse-none k false rest e = absurd (omega arith)

@@ -23,9 +23,9 @@ pub record Sizes (n m cells pairing prices discounts : ℕ) : Type 0 where
   pub prices-long : n ≤ prices
   pub discounts-long : m ≤ discounts
 
--- 22: each of the first k cells is a score or none
+-- 22: each of the first k cells is none or a score
 abbrev pub cellOk : ℕ → Bool
-cellOk c = ltb c scoreEnd || eqb c none
+cellOk c = eqb c none || ltb c scoreEnd
 
 unfoldable pub cellsOk : ℕ → List ℕ → Bool
 cellsOk k cells = each k (λ i. cellOk (at cells i))
