@@ -3,7 +3,7 @@ use Prim.Native.Nat.{ℕ, zero, suc, _+_, _≤_, _<_}
 use mathlib.Core.Path.{_≡_, refl, sym, _∙_}
 use mathlib.Core.Bool.{Bool, true, false, not, _&&_, _||_, cond}
 use mathlib.Core.List.{List, [], _∷_}
-use mathlib.Core.Logic.{⊎-elim}
+use mathlib.Core.Logic.{_⊎_, inl, inr, ⊎-elim}
 use native.Mathlib.Nat.{lt-suc-self, le-step, le-antisymm, eq-or-lt-of-le, le-of-suc-le-suc, not-suc-le-zero}
 use native.Mathlib.Numerals.{add-one}
 use native.Mathlib.Omega.{arith}
@@ -83,6 +83,23 @@ unfolding each
 each-all f zero h = refl
 each-all f (suc n) h = and-both (each-all f n (λ i l. h i (le-step l))) (h n (lt-suc-self n))
 
+-- each holds, or one fails
+pub each-or-one : (f : ℕ → Bool) (n : ℕ) → (each n f ≡ true) ⊎ ((i : ℕ) × ((i < n) × (f i ≡ false)))
+unfolding each
+each-or-one f zero = inl refl
+each-or-one f (suc n) = go (f n) refl (each-or-one f n)
+  where
+    go : (b : Bool) → f n ≡ b → (each n f ≡ true) ⊎ ((i : ℕ) × ((i < n) × (f i ≡ false))) → ((each n f && b) ≡ true) ⊎ ((i : ℕ) × ((i < suc n) × (f i ≡ false)))
+    go b e (inr (i, (l, h))) = inr (i, (le-step l, h))
+    go true e (inl a) = inl (and-both a refl)
+    go false e (inl a) = inr (n, (lt-suc-self n, e))
+
+-- tests that agree below n
+pub each-same : (f g : ℕ → Bool) (n : ℕ) → ((i : ℕ) → i < n → f i ≡ g i) → each n f ≡ each n g
+unfolding each
+each-same f g zero h = refl
+each-same f g (suc n) h = rw (each-same f g n (λ i l. h i (le-step l)), h n (lt-suc-self n))
+
 -- ---- a list of tests
 
 -- the tests as facts
@@ -111,3 +128,8 @@ one-fails (b ∷ bs) (suc k) e = and-fails b (holds bs) (one-fails bs k e)
 pub refuse-none : (k : ℕ) (ok : Bool) (rest : ℕ) → refuse (suc k) ok rest ≡ 0 → (ok ≡ true) × (rest ≡ 0)
 refuse-none k true rest e = (refl, e)
 refuse-none k false rest e = absurd (omega arith)
+
+-- two chains agree where their tests do, and the rest wherever the test holds
+pub refuse-same : (k : ℕ) (ok ok′ : Bool) (rest rest′ : ℕ) → ok ≡ ok′ → (ok ≡ true → rest ≡ rest′) → refuse k ok rest ≡ refuse k ok′ rest′
+refuse-same k true ok′ rest rest′ e h = rw (← e) (h refl)
+refuse-same k false ok′ rest rest′ e h = rw (← e)

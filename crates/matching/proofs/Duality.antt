@@ -5,16 +5,16 @@ use mathlib.Core.Path.{_≡_, refl, sym, _∙_}
 use mathlib.Core.Bool.{Bool, true, false, cond}
 use mathlib.Core.Logic.{⊎-elim}
 use native.Mathlib.Omega.{arith}
-use native.Mathlib.Nat.{eq-or-lt-of-le, le-trans, mul-le-mul-right}
+use native.Mathlib.Nat.{eq-or-lt-of-le, lt-suc-self, mul-le-mul-right}
 use lib.Dec.{eqb, ltb}
-use borrow.Author.Tests.{eqb-false, lt-ltb, eqb-true, ltb-true}
+use borrow.Author.Tests.{eq-eqb, ne-eqb, eqb-false, lt-ltb}
 use Rattle.laws.specs.Sums.{Sum}
-use Rattle.laws.proofs.Sums.{sum-le, sum-add, sum-under, sum-injective}
+use Rattle.laws.proofs.Sums.{sum-le, sum-add, sum-under, sum-less, sum-zero, sum-injective}
 use Rattle.matching.specs.Pairing.{none, scoreEnd, leftOut, mostTracks, Sheet, InRange, Paired, ValidPairing, pairs, misses, scoreOr, scoreSum, total, Best, FairPrices}
 
--- THE BOUND: the highest scores of all tracks together are less than one track left out
-pub leaving-out-is-never-cheap : mostTracks * (scoreEnd - 1) < leftOut
-leaving-out-is-never-cheap = omega arith
+-- the highest scores of all tracks together are less than one track left out
+pub bound : mostTracks * (scoreEnd - 1) < leftOut
+bound = omega arith
 
 -- ---- prices
 
@@ -90,6 +90,16 @@ pub pairs-and-misses : (S : Sheet) (P : ℕ → ℕ) → pairs S P + misses S P 
 unfolding pairs misses
 pairs-and-misses S P = count-both (S .tracks) (λ i. eqb (P i) none)
 
+-- no track is left out, by the count and one by one
+pub misses-none : (S : Sheet) (P : ℕ → ℕ) → ((i : ℕ) → i < S .tracks → Paired P i) → misses S P ≡ 0
+unfolding misses
+misses-none S P all = sum-zero (S .tracks) _ (λ i l. rw (ne-eqb (P i) none (all i l)))
+
+pub no-misses : (S : Sheet) (P : ℕ → ℕ) → misses S P ≡ 0 → (i : ℕ) → i < S .tracks → Paired P i
+unfolding misses
+no-misses S P z i l e =
+    omega (arith, sum-less (S .tracks) i (λ k. 0) (λ k. cond (eqb (P k) none) 1 0) l (rw (eq-eqb (P i) none e) (lt-suc-self 0)) (λ k h. zero-le))
+
 -- the scores of a valid pairing come to less than one track left out
 scores-few : (S : Sheet) (P : ℕ → ℕ) → InRange S → ValidPairing S P → scoreSum S P < leftOut
 unfolding scoreSum
@@ -97,7 +107,7 @@ scores-few S P r p =
     let a : Sum (S .tracks) (scoreOr 0 S P) ≤ S .tracks * (scoreEnd - 1) =
     sum-under (S .tracks) (scoreEnd - 1) _ (λ i l. score i l (eqb (P i) none) refl) in
     let b : S .tracks * (scoreEnd - 1) ≤ mostTracks * (scoreEnd - 1) = mul-le-mul-right (scoreEnd - 1) (r .tracks-few) in
-    omega (arith, leaving-out-is-never-cheap)
+    omega (arith, bound)
   where
     score : (i : ℕ) → i < S .tracks → (b : Bool) → eqb (P i) none ≡ b → cond b 0 (S .cell i (P i)) ≤ scoreEnd - 1
     score i l true e = zero-le
@@ -113,7 +123,7 @@ least-best S P r p h =
       least = λ Q q e l. omega (arith, h Q q, total-split S P, total-split S Q);
     }
 
-at-most : {a b : ℕ} → (b < a → ⊥) → a ≤ b
+pub at-most : {a b : ℕ} → (b < a → ⊥) → a ≤ b
 at-most h = omega arith
 
 pub best-least : (S : Sheet) (P Q : ℕ → ℕ) → InRange S → Best S P → ValidPairing S Q → total S P ≤ total S Q

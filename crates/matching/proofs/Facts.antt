@@ -140,4 +140,4 @@ module _ (S : Sheet) (u v : ℕ → ℕ) where
   unfolding scoresOk
   scores-ok f =
       each-all _ (S .tracks) (λ i li. each-all _ (S .reports) (λ j lj.
-          or-else _ _ (λ e. le-leb (u i) (S .cell i j + v j) (f .under i j li lj (eqb-false (S .cell i j) none e)))))
+      or-else _ _ (λ e. le-leb (u i) (S .cell i j + v j) (f .under i j li lj (eqb-false (S .cell i j) none e)))))
