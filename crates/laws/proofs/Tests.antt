@@ -27,6 +27,11 @@ pub and-fails : (a b : Bool) → b ≡ false → (a && b) ≡ false
 and-fails true b e = e
 and-fails false b e = refl
 
+-- the firsts agree, and where they hold the seconds
+pub and-same : (a a′ b b′ : Bool) → a ≡ a′ → (a ≡ true → b ≡ b′) → (a && b) ≡ (a′ && b′)
+and-same true a′ b b′ e h = rw (← e) (h refl)
+and-same false a′ b b′ e h = rw (← e)
+
 pub or-left : (a b : Bool) → a ≡ true → (a || b) ≡ true
 or-left true b e = refl
 or-left false b e = cc

@@ -1,6 +1,8 @@
--- What holds of pairings, of certificates, and of the check's answers.
+-- What the referee's word is worth (Theorems), and what leads there.
+pub mod Theorems
+pub mod Examples
 pub mod Duality
-pub mod Facts
 pub mod Same
 pub mod Unused
-pub mod Theorems
+pub mod Facts
+pub mod Beyond

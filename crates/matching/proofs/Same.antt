@@ -9,11 +9,7 @@ use lib.Dec.{eqb}
 use lib.ListN.{length}
 use Rattle.laws.specs.Sums.{Sum}
 use Rattle.laws.proofs.Sums.{sum-same}
-use Rattle.matching.specs.Pairing.{none, leftOut, Sheet, ValidPairing, pairs, scoreOr, scoreSum, total, Best, at, BestList}
-
--- P and Q say the same of each track below n
-abbrev pub Alike : ℕ → (ℕ → ℕ) → (ℕ → ℕ) → Type 0
-Alike n P Q = (i : ℕ) → i < n → P i ≡ Q i
+use Rattle.matching.specs.Pairing.{none, leftOut, Sheet, ValidPairing, pairs, scoreOr, scoreSum, total, Best, at, Alike, BestList}
 
 module _ (S : Sheet) (P Q : ℕ → ℕ) (a : Alike (S .tracks) P Q) where
   pub valid-same : ValidPairing S P → ValidPairing S Q

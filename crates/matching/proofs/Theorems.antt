@@ -6,12 +6,13 @@ use native.Mathlib.Omega.{arith}
 use lib.ListN.{length}
 use borrow.Author.Tests.{eq-eqb, eqb-true}
 use Rattle.laws.proofs.Tests.{refuse-none}
-use Rattle.matching.specs.Pairing.{none, scoreEnd, leftOut, mostTracks, Sheet, Admissible, InRange, Paired, ValidPairing, pairs, misses, scoreSum, total, Best, Certificate, at, sheetOf, BestList}
+use Rattle.matching.specs.Pairing.{none, scoreEnd, leftOut, mostTracks, Sheet, Admissible, InRange, Paired, ValidPairing, pairs, misses, scoreSum, total, Best, Certificate, at, Alike, sheetOf, BestList}
 use Rattle.matching.specs.Answer.{Sizes, sheetRefusal, totalsOk, checkAnswer}
 use Rattle.matching.proofs.Duality as duality
 use Rattle.matching.proofs.Facts as facts
 use Rattle.matching.proofs.Same as same
 use Rattle.matching.proofs.Unused as unused
+use Rattle.matching.proofs.Beyond as beyond
 
 -- The highest scores of as many tracks as there may be come to less than one track left out: no saving in scores pays for leaving a
 -- track out.
@@ -160,3 +161,8 @@ zero-says n m s p u v e =
       served = λ q. all-are-served S (at p) (at q) b;
       used = no-report-unused S (at p) b (omega (arith, z .reports-few));
     }
+
+-- Entries beyond those that n tracks and m reports need are neither read nor judged: lists that are long enough and the same up to
+-- there have the same answer.
+pub beyond-is-not-read : (n m : ℕ) (s s′ p p′ u u′ v v′ : List ℕ) → Fits n m s p u v → Fits n m s′ p′ u′ v′ → Alike (n * m) (at s) (at s′) → Alike n (at p) (at p′) → Alike n (at u) (at u′) → Alike m (at v) (at v′) → checkAnswer n m s p u v ≡ checkAnswer n m s′ p′ u′ v′
+beyond-is-not-read = beyond.answer-same

@@ -102,6 +102,10 @@ pub record Certificate (S : Sheet) (P prices discounts : ℕ → ℕ) : Type 0 w
 abbrev pub at : List ℕ → ℕ → ℕ
 at xs i = getD xs i 0
 
+-- f and g are the same below n
+abbrev pub Alike : ℕ → (ℕ → ℕ) → (ℕ → ℕ) → Type 0
+Alike n f g = (i : ℕ) → i < n → f i ≡ g i
+
 -- the cells go row by row, a row a track
 abbrev pub sheetOf : (tracks reports : ℕ) → List ℕ → Sheet
 sheetOf n m cells = record { tracks = n; reports = m; cell = λ i j. at cells (i * m + j) }
