@@ -1,18 +1,17 @@
 -- The check's answer depends on no entry beyond those that its sheet, pairing, prices and discounts need. Assumes nothing.
-use Prim.Native.Nat.{ℕ, _+_, _*_, _≤_, _<_}
+use Prim.Native.Nat.{ℕ, _+_, _*_, _<_}
 use mathlib.Core.Path.{_≡_, refl, sym, ap, _∙_}
-use mathlib.Core.Bool.{Bool, true, false, cond, not, _&&_, _||_}
+use mathlib.Core.Bool.{Bool, true, false, cond, not, _||_}
 use mathlib.Core.List.{List}
 use native.Mathlib.Nat.{lt-trans}
 use lib.Arith.{digits-lt}
 use lib.Dec.{ltb, leb, eqb}
 use lib.ListN.{length}
 use borrow.Author.Tests.{ltb-true, eqb-false}
-use Rattle.laws.specs.Tests.{each}
 use Rattle.laws.proofs.Tests.{each-same, refuse-same, and-same}
 use Rattle.laws.proofs.Sums.{sum-same}
-use Rattle.matching.specs.Pairing.{none, leftOut, Sheet, scoreOr, total, at, Alike, sheetOf}
-use Rattle.matching.specs.Answer.{Sizes, cellOk, cellsOk, entryOk, pairingOk, numbersOk, pairOk, rowOk, scoresOk, totalsOk, sheetRefusal, checkAnswer}
+use Rattle.matching.specs.Pairing.{none, leftOut, total, at, Alike, sheetOf}
+use Rattle.matching.specs.Answer.{Sizes, cellOk, cellsOk, entryOk, pairingOk, numbersOk, scoresOk, totalsOk, sheetRefusal, checkAnswer}
 use Rattle.matching.proofs.Facts as facts
 
 module _ (n m : ℕ) (s s′ : List ℕ) (c : Alike (n * m) (at s) (at s′)) where

@@ -1,18 +1,19 @@
 -- The check's tests, as facts: what each says where it holds, and that it holds where that is so. Assumes nothing.
-use Prim.Native.Nat.{ℕ, zero, suc, _+_, _*_, _/_, _%_, _≤_, _<_}
+use Prim.Native.Nat.{ℕ, _+_, _*_, _/_, _%_, _≤_, _<_}
 use mathlib.Core.Path.{_≡_, refl, sym, ap, _∙_}
-use mathlib.Core.Bool.{Bool, true, false, not, _&&_, _||_}
-use mathlib.Core.List.{List, [], _∷_}
-use mathlib.Core.Logic.{_⊎_, ⊎-elim}
+use mathlib.Core.Bool.{Bool, true, false, not, _&&_}
+use mathlib.Core.List.{List}
+use mathlib.Core.Logic.{⊎-elim}
 use native.Mathlib.Omega.{arith}
 use native.Mathlib.Nat.{ne-of-lt, mul-zero, mod-lt, div-lt-iff-lt-mul, div-add-mod', eq-zero-or-pos, lt-trans}
 use lib.Arith.{digits-lt}
-use lib.Dec.{ltb, leb, eqb}
-use borrow.Author.Tests.{ltb-true, leb-true, lt-ltb, le-leb, eq-eqb, ne-eqb, eqb-true, eqb-false, not-true}
-use Rattle.laws.specs.Tests.{each, holds}
-use Rattle.laws.proofs.Tests.{and-both, and-left, and-right, or-else, or-second, each-at, each-all, holds-each, all-hold}
+use lib.Dec.{ltb, eqb}
+use lib.ListN.{length}
+use borrow.Author.Tests.{ltb-true, leb-true, lt-ltb, le-leb, ne-eqb, eqb-false, not-true}
+use Rattle.laws.specs.Tests.{each, refuse}
+use Rattle.laws.proofs.Tests.{and-both, and-left, and-right, or-else, or-second, each-at, each-all, holds-each, all-hold, refuse-none}
 use Rattle.matching.specs.Pairing.{none, scoreEnd, leftOut, mostTracks, Sheet, Admissible, InRange, Paired, ValidPairing, FairPrices, at, sheetOf}
-use Rattle.matching.specs.Answer.{sizesOk, Sizes, cellOk, cellsOk, entryOk, pairingOk, numbersOk, rowOk, scoresOk}
+use Rattle.matching.specs.Answer.{sizesOk, Sizes, cellOk, cellsOk, entryOk, pairingOk, numbersOk, rowOk, scoresOk, sheetRefusal}
 
 -- ---- 21
 
@@ -74,18 +75,18 @@ module _ (S : Sheet) (P : ℕ → ℕ) (i : ℕ) where
   abbrev fresh? : Bool
   fresh? = each i (λ k. not (eqb (P k) (P i)))
 
-  rest : entryOk S P i ≡ true → Paired P i → (there? && admissible? && fresh?) ≡ true
-  rest e d = or-second _ _ e (ne-eqb (P i) none d)
+  entry-rest : entryOk S P i ≡ true → Paired P i → (there? && admissible? && fresh?) ≡ true
+  entry-rest e d = or-second _ _ e (ne-eqb (P i) none d)
 
   pub entry-there : entryOk S P i ≡ true → Paired P i → P i < S .reports
-  entry-there e d = ltb-true _ _ (and-left there? admissible? (and-left (there? && admissible?) fresh? (rest e d)))
+  entry-there e d = ltb-true _ _ (and-left there? admissible? (and-left (there? && admissible?) fresh? (entry-rest e d)))
 
   entry-admissible : entryOk S P i ≡ true → Paired P i → Admissible S i (P i)
   entry-admissible e d =
-      eqb-false _ _ (not-true _ (and-right there? admissible? (and-left (there? && admissible?) fresh? (rest e d))))
+      eqb-false _ _ (not-true _ (and-right there? admissible? (and-left (there? && admissible?) fresh? (entry-rest e d))))
 
   entry-fresh : entryOk S P i ≡ true → Paired P i → (k : ℕ) → k < i → P k ≡ P i → ⊥
-  entry-fresh e d k l = eqb-false (P k) (P i) (not-true _ (each-at _ i k (and-right (there? && admissible?) fresh? (rest e d)) l))
+  entry-fresh e d k l = eqb-false (P k) (P i) (not-true _ (each-at _ i k (and-right (there? && admissible?) fresh? (entry-rest e d)) l))
 
   entry-ok : (Paired P i → P i < S .reports) → (Paired P i → Admissible S i (P i)) → (Paired P i → (k : ℕ) → k < i → P k ≡ P i → ⊥) → entryOk S P i ≡ true
   entry-ok h a f =
@@ -141,3 +142,37 @@ module _ (S : Sheet) (u v : ℕ → ℕ) where
   scores-ok f =
       each-all _ (S .tracks) (λ i li. each-all _ (S .reports) (λ j lj.
       or-else _ _ (λ e. le-leb (u i) (S .cell i j + v j) (f .under i j li lj (eqb-false (S .cell i j) none e)))))
+
+-- ---- 21 and 22 together
+
+module _ (n m : ℕ) (s : List ℕ) (pairing prices discounts : ℕ) where
+  -- a refusal stands, whatever would follow
+  pub refusal-stands : (sheetRefusal n m s pairing prices discounts 0 ≡ 0 → ⊥) → (rest : ℕ) → sheetRefusal n m s pairing prices discounts 0 ≡ sheetRefusal n m s pairing prices discounts rest
+  unfolding sheetRefusal
+  refusal-stands h rest = go (sizesOk n m (length s) pairing prices discounts) (cellsOk (n * m) s) h
+    where
+      go : (a b : Bool) → (refuse 21 a (refuse 22 b 0) ≡ 0 → ⊥) → refuse 21 a (refuse 22 b 0) ≡ refuse 21 a (refuse 22 b rest)
+      go false b h = refl
+      go true false h = refl
+      go true true h = absurd (h refl)
+
+  passes : sheetRefusal n m s pairing prices discounts 0 ≡ 0 → (sizesOk n m (length s) pairing prices discounts ≡ true) × (cellsOk (n * m) s ≡ true)
+  unfolding sheetRefusal
+  passes e =
+      let a = refuse-none 20 (sizesOk n m (length s) pairing prices discounts) (refuse 22 (cellsOk (n * m) s) 0) e in
+      (a .0, refuse-none 21 (cellsOk (n * m) s) 0 (a .1) .0)
+
+  -- with no refusal the rest follows
+  pub refusal-passed : sheetRefusal n m s pairing prices discounts 0 ≡ 0 → (rest : ℕ) → sheetRefusal n m s pairing prices discounts rest ≡ rest
+  unfolding sheetRefusal
+  refusal-passed e rest = rw (passes e .0, passes e .1)
+
+  pub passed-sizes : sheetRefusal n m s pairing prices discounts 0 ≡ 0 → Sizes n m (length s) pairing prices discounts
+  passed-sizes e = sizes n m (length s) pairing prices discounts (passes e .0)
+
+  pub passed-range : sheetRefusal n m s pairing prices discounts 0 ≡ 0 → InRange (sheetOf n m s)
+  passed-range e = in-range n m s (passed-sizes e .tracks-few) (passes e .1)
+
+  pub ready-passes : Sizes n m (length s) pairing prices discounts → InRange (sheetOf n m s) → (rest : ℕ) → sheetRefusal n m s pairing prices discounts rest ≡ rest
+  unfolding sheetRefusal
+  ready-passes z r rest = rw (sizes-ok n m (length s) pairing prices discounts z, cells-ok n m s r)

@@ -1,15 +1,13 @@
 -- A pairing is what it says of the tracks that are there; so lists of report numbers do for functions. Assumes nothing.
-use Prim.Native.Nat.{ℕ, zero, suc, _≤_, _<_}
+use Prim.Native.Nat.{ℕ, zero, suc, _≤_}
 use mathlib.Core.Path.{_≡_, refl, ap, sym, _∙_}
 use mathlib.Core.Bool.{cond}
 use mathlib.Core.List.{List, [], _∷_}
-use native.Mathlib.Omega.{arith}
 use native.Mathlib.Nat.{le-of-eq, le-of-suc-le-suc, not-suc-le-zero}
 use lib.Dec.{eqb}
 use lib.ListN.{length}
-use Rattle.laws.specs.Sums.{Sum}
 use Rattle.laws.proofs.Sums.{sum-same}
-use Rattle.matching.specs.Pairing.{none, leftOut, Sheet, ValidPairing, pairs, scoreOr, scoreSum, total, Best, at, Alike, BestList}
+use Rattle.matching.specs.Pairing.{none, Sheet, ValidPairing, pairs, scoreSum, Best, at, Alike, BestList}
 
 module _ (S : Sheet) (P Q : ℕ → ℕ) (a : Alike (S .tracks) P Q) where
   pub valid-same : ValidPairing S P → ValidPairing S Q

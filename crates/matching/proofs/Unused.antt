@@ -1,5 +1,5 @@
 -- A pairing to which a track left out and a report that no track has are added. Assumes nothing.
-use Prim.Native.Nat.{ℕ, suc, _≤_, _<_}
+use Prim.Native.Nat.{ℕ, _≤_, _<_}
 use mathlib.Core.Path.{_≡_, refl, sym, _∙_}
 use mathlib.Core.Bool.{Bool, true, false, cond, not}
 use mathlib.Core.Logic.{_⊎_, inl, inr, ⊎-elim}
@@ -9,7 +9,7 @@ use lib.Dec.{eqb}
 use borrow.Author.Tests.{eq-eqb, ne-eqb, eqb-true, eqb-false, not-true, not-false}
 use Rattle.laws.proofs.Sums.{sum-less}
 use Rattle.laws.proofs.Tests.{each-or-one, each-at}
-use Rattle.matching.specs.Pairing.{none, Sheet, Admissible, Paired, ValidPairing, pairs, Best}
+use Rattle.matching.specs.Pairing.{none, Sheet, Admissible, ValidPairing, pairs, Best}
 
 -- P, and report j for track i
 abbrev with : ℕ → ℕ → (ℕ → ℕ) → ℕ → ℕ
