@@ -11,7 +11,7 @@ use borrow.Author.Tests.{ltb-true, eqb-false}
 use Rattle.laws.proofs.Tests.{each-same, refuse-same, and-same}
 use Rattle.laws.proofs.Sums.{sum-same}
 use Rattle.matching.specs.Pairing.{none, leftOut, total, at, Alike, sheetOf}
-use Rattle.matching.specs.Answer.{Sizes, cellOk, cellsOk, entryOk, pairingOk, numbersOk, scoresOk, totalsOk, sheetRefusal, checkAnswer}
+use Rattle.matching.specs.Answer.{Fits, cellOk, cellsOk, entryOk, pairingOk, numbersOk, scoresOk, totalsOk, sheetRefusal, checkAnswer}
 use Rattle.matching.proofs.Facts as facts
 
 module _ (n m : ℕ) (s s′ : List ℕ) (c : Alike (n * m) (at s) (at s′)) where
@@ -54,7 +54,7 @@ numbers-same : (n : ℕ) (f g : ℕ → ℕ) → Alike n f g → numbersOk n f �
 unfolding numbersOk
 numbers-same n f g a = each-same _ _ n (λ i l. ap (λ x. leb x leftOut) (a i l))
 
-pub answer-same : (n m : ℕ) (s s′ p p′ u u′ v v′ : List ℕ) → Sizes n m (length s) (length p) (length u) (length v) → Sizes n m (length s′) (length p′) (length u′) (length v′) → Alike (n * m) (at s) (at s′) → Alike n (at p) (at p′) → Alike n (at u) (at u′) → Alike m (at v) (at v′) → checkAnswer n m s p u v ≡ checkAnswer n m s′ p′ u′ v′
+pub answer-same : (n m : ℕ) (s s′ p p′ u u′ v v′ : List ℕ) → Fits n m s p u v → Fits n m s′ p′ u′ v′ → Alike (n * m) (at s) (at s′) → Alike n (at p) (at p′) → Alike n (at u) (at u′) → Alike m (at v) (at v′) → checkAnswer n m s p u v ≡ checkAnswer n m s′ p′ u′ v′
 unfolding checkAnswer sheetRefusal totalsOk
 answer-same n m s s′ p p′ u u′ v v′ z z′ cs ps us vs =
     refuse-same 21 _ _ _ _

@@ -1,13 +1,13 @@
 -- What the referee's word is worth. Each theorem with its plain meaning; the definitions are those of specs/. Assumes nothing.
 use Prim.Native.Nat.{ℕ, _-_, _*_, _≤_, _<_}
-use mathlib.Core.Path.{_≡_, sym}
+use mathlib.Core.Path.{_≡_, sym, _∙_}
 use mathlib.Core.List.{List}
 use native.Mathlib.Omega.{arith}
 use lib.ListN.{length}
 use borrow.Author.Tests.{eq-eqb, eqb-true}
 use Rattle.laws.proofs.Tests.{refuse-none}
 use Rattle.matching.specs.Pairing.{none, scoreEnd, leftOut, mostTracks, Sheet, Admissible, InRange, Paired, ValidPairing, pairs, misses, scoreSum, total, Best, Certificate, at, Alike, sheetOf, BestList}
-use Rattle.matching.specs.Answer.{Sizes, sheetRefusal, totalsOk, checkAnswer}
+use Rattle.matching.specs.Answer.{Sizes, Fits, sheetRefusal, totalsOk, checkAnswer}
 use Rattle.matching.proofs.Duality as duality
 use Rattle.matching.proofs.Facts as facts
 use Rattle.matching.proofs.Same as same
@@ -81,8 +81,17 @@ best-is-list = same.best-list
 
 -- ---- the check's answer
 
-abbrev pub Fits : (n m : ℕ) (cells pairing prices discounts : List ℕ) → Type 0
-Fits n m s p u v = Sizes n m (length s) (length p) (length u) (length v)
+-- Two results that meet the check's contract are equal.
+pub one-answer : (n m : ℕ) (s p u v : List ℕ) (r r′ : ℕ) → r ≡ checkAnswer n m s p u v → r′ ≡ checkAnswer n m s p u v → r ≡ r′
+one-answer n m s p u v r r′ e f = e ∙ sym f
+
+-- A sheet is refused with neither 21 nor 22 just where the lists are long enough, by their lengths, and its cells in range.
+pub not-refused : (n m : ℕ) (s : List ℕ) (pairing prices discounts : ℕ) → sheetRefusal n m s pairing prices discounts 0 ≡ 0 → Sizes n m (length s) pairing prices discounts × InRange (sheetOf n m s)
+not-refused n m s pairing prices discounts e =
+    (facts.passed-sizes n m s pairing prices discounts e, facts.passed-range n m s pairing prices discounts e)
+
+pub ready-is-not-refused : (n m : ℕ) (s : List ℕ) (pairing prices discounts : ℕ) → Sizes n m (length s) pairing prices discounts → InRange (sheetOf n m s) → sheetRefusal n m s pairing prices discounts 0 ≡ 0
+ready-is-not-refused n m s pairing prices discounts z r = facts.ready-passes n m s pairing prices discounts z r 0
 
 module _ (n m : ℕ) (s u v : List ℕ) where
   -- The answer is 0 just where the lists are long enough and hold a certificate.
@@ -121,7 +130,7 @@ module _ (n m : ℕ) (s u v : List ℕ) where
   pub zero-is-best : (p : List ℕ) → checkAnswer n m s p u v ≡ 0 → Best (sheetOf n m s) (at p)
   zero-is-best p e = accepted-is-best (sheetOf n m s) (at p) (at u) (at v) (zero-certificate p e .1)
 
-  -- With one pairing's accepted numbers it accepts every best pairing.
+  -- With the numbers that it accepted for one pairing it accepts every best pairing.
   pub best-is-zero : (p q : List ℕ) → checkAnswer n m s p u v ≡ 0 → n ≤ length q → Best (sheetOf n m s) (at q) → checkAnswer n m s q u v ≡ 0
   best-is-zero p q e l b =
       let c = zero-certificate p e in
@@ -136,28 +145,30 @@ module _ (n m : ℕ) (s u v : List ℕ) where
       } in
       certificate-zero q z (best-is-accepted (sheetOf n m s) (at p) (at q) (at u) (at v) (c .1) b)
 
--- What the answer 0 says of a pairing p of n tracks with m reports, all in one.
-pub record Accepted (n m : ℕ) (s p : List ℕ) : Type 0 where
+-- All that the answer 0 says of a pairing p of n tracks with m reports.
+pub record Accepted (n m : ℕ) (s p u v : List ℕ) : Type 0 where
   -- no list of report numbers does better
   pub best : BestList (sheetOf n m s) p
-  -- and all that do as well have as many pairs and the same sum of scores
-  pub ties : (q : List ℕ) → Best (sheetOf n m s) (at q) → Agree (sheetOf n m s) (at p) (at q)
+  -- every list that does as well has as many pairs and the same sum of scores, and is accepted with the same numbers
+  pub ties : (q : List ℕ) → BestList (sheetOf n m s) q → Agree (sheetOf n m s) (at p) (at q)
+  pub every : (q : List ℕ) → BestList (sheetOf n m s) q → checkAnswer n m s q u v ≡ 0
   -- no valid pairing leaves fewer tracks out
-  pub misses-fewest : (q : List ℕ) → ValidPairing (sheetOf n m s) (at q) → misses (sheetOf n m s) (at p) ≤ misses (sheetOf n m s) (at q)
+  pub fewest : (q : List ℕ) → ValidPairing (sheetOf n m s) (at q) → misses (sheetOf n m s) (at p) ≤ misses (sheetOf n m s) (at q)
   -- where all tracks can be served at once, all are
   pub served : (q : List ℕ) → ValidPairing (sheetOf n m s) (at q) → ((i : ℕ) → i < n → Paired (at q) i) → (i : ℕ) → i < n → Paired (at p) i
   -- an admissible report of a track left out is some track's
   pub used : (i j : ℕ) → i < n → at p i ≡ none → j < m → Admissible (sheetOf n m s) i j → (k : ℕ) × ((k < n) × (at p k ≡ j))
 
-pub zero-says : (n m : ℕ) (s p u v : List ℕ) → checkAnswer n m s p u v ≡ 0 → Accepted n m s p
+pub zero-says : (n m : ℕ) (s p u v : List ℕ) → checkAnswer n m s p u v ≡ 0 → Accepted n m s p u v
 zero-says n m s p u v e =
     let S : Sheet = sheetOf n m s in
     let b : Best S (at p) = zero-is-best n m s u v p e in
     let z = zero-certificate n m s u v p e .0 in
     record {
       best = best-is-list S p (z .pairing-long) b;
-      ties = λ q c. best-agree S (at p) (at q) b c;
-      misses-fewest = λ q. fewest-misses S (at p) (at q) b;
+      ties = λ q c. best-agree S (at p) (at q) b (list-is-best S q c);
+      every = λ q c. best-is-zero n m s u v p q e (c .long) (list-is-best S q c);
+      fewest = λ q. fewest-misses S (at p) (at q) b;
       served = λ q. all-are-served S (at p) (at q) b;
       used = no-report-unused S (at p) b (omega (arith, z .reports-few));
     }

@@ -19,6 +19,8 @@ pub const LEFT_OUT: u32 = 268435456;
 pub const MOST_TRACKS: usize = 100;
 
 pub const MOST_REPORTS: usize = 100;
+// The check's answer where it finds no fault.
+pub const ACCEPTED: u8 = 0;
 
 // Few enough tracks and reports, and long enough lists, by their lengths.
 fn sizes_ok(
@@ -172,6 +174,17 @@ fn numbers_ok(n: usize, numbers: &[u32]) -> bool
     true
 }
 
+// All prices and all discounts are.
+fn all_numbers_ok(tracks: usize, reports: usize, prices: &[u32], discounts: &[u32]) -> bool
+    requires { ⌜ (tracks ≤ length (now prices)) × (reports ≤ length (now discounts)) ⌝ }
+    ensures { λ r. ⌜ r ≡ (numbersOk tracks (at (now (prices .entry))) && numbersOk reports (at (now (discounts .entry)))) ⌝ }
+{
+    if !numbers_ok(tracks, prices) {
+        return false;
+    }
+    numbers_ok(reports, discounts)
+}
+
 // The pair is not admissible, or the price less the discount is not above its score.
 fn pair_ok(price: u64, score: u32, discount: u32) -> bool
     ensures { λ r. ⌜ r ≡ pairOk price score discount ⌝ }
@@ -303,10 +316,7 @@ pub fn check_pairing(
     if !pairing_ok(tracks, reports, sheet, pairing) {
         return 23;
     }
-    if !numbers_ok(tracks, prices) {
-        return 24;
-    }
-    if !numbers_ok(reports, discounts) {
+    if !all_numbers_ok(tracks, reports, prices, discounts) {
         return 24;
     }
     if !scores_ok(tracks, reports, sheet, prices, discounts) {
@@ -315,5 +325,5 @@ pub fn check_pairing(
     if !totals_ok(tracks, reports, sheet, pairing, prices, discounts) {
         return 26;
     }
-    0
+    ACCEPTED
 }
