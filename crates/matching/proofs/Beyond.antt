@@ -38,11 +38,11 @@ module _ (n m : ℕ) (s s′ : List ℕ) (c : Alike (n * m) (at s) (at s′)) wh
 
     total-same : pairingOk (sheetOf n m s) (at p) ≡ true → total (sheetOf n m s) (at p) ≡ total (sheetOf n m s′) (at p′)
     unfolding total
-    total-same e = sum-same n _ _ (λ i l. rw (← a i l) (cost i l (eqb (at p i) none) refl))
+    total-same e = sum-same n _ _ (λ i l. rw (← a i l) (cost _ i l (eqb (at p i) none) refl))
       where
-        cost : (i : ℕ) → i < n → (b : Bool) → eqb (at p i) none ≡ b → cond b leftOut (at s (i * m + at p i)) ≡ cond b leftOut (at s′ (i * m + at p i))
-        cost i l true f = refl
-        cost i l false f =
+        cost : (c i : ℕ) → i < n → (b : Bool) → eqb (at p i) none ≡ b → cond b c (at s (i * m + at p i)) ≡ cond b c (at s′ (i * m + at p i))
+        cost c i l true f = refl
+        cost c i l false f =
             cell-same i (at p i) l (facts.valid (sheetOf n m s) (at p) e .there i l (eqb-false (at p i) none f))
 
   module _ (u u′ v v′ : List ℕ) (a : Alike n (at u) (at u′)) (b : Alike m (at v) (at v′)) where
