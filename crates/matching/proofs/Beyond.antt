@@ -57,13 +57,13 @@ numbers-same n f g a = each-same _ _ n (λ i l. ap (λ x. leb x leftOut) (a i l)
 pub answer-same : (n m : ℕ) (s s′ p p′ u u′ v v′ : List ℕ) → Fits n m s p u v → Fits n m s′ p′ u′ v′ → Alike (n * m) (at s) (at s′) → Alike n (at p) (at p′) → Alike n (at u) (at u′) → Alike m (at v) (at v′) → checkAnswer n m s p u v ≡ checkAnswer n m s′ p′ u′ v′
 unfolding checkAnswer sheetRefusal totalsOk
 answer-same n m s s′ p p′ u u′ v v′ z z′ cs ps us vs =
-    refuse-same 21 _ _ _ _
+    refuse-same _ _ _ _ _
     (facts.sizes-ok n m (length s) (length p) (length u) (length v) z ∙ sym (facts.sizes-ok n m (length s′) (length p′) (length u′) (length v′) z′))
-    (λ e₁. refuse-same 22 _ _ _ _ (cells-same n m s s′ cs)
-    (λ e₂. refuse-same 23 _ _ _ _ (pairing-same n m s s′ cs p p′ ps)
-    (λ e₃. refuse-same 24 _ _ _ _ (and-same _ _ _ _ (numbers-same n (at u) (at u′) us) (λ t. numbers-same m (at v) (at v′) vs))
-    (λ e₄. refuse-same 25 _ _ _ _ (scores-same n m s s′ cs u u′ v v′ us vs)
-    (λ e₅. refuse-same 26 _ _ _ _
+    (λ e₁. refuse-same _ _ _ _ _ (cells-same n m s s′ cs)
+    (λ e₂. refuse-same _ _ _ _ _ (pairing-same n m s s′ cs p p′ ps)
+    (λ e₃. refuse-same _ _ _ _ _ (and-same _ _ _ _ (numbers-same n (at u) (at u′) us) (λ t. numbers-same m (at v) (at v′) vs))
+    (λ e₄. refuse-same _ _ _ _ _ (scores-same n m s s′ cs u u′ v v′ us vs)
+    (λ e₅. refuse-same _ _ _ _ _
     (cong₃ (sum-same n (at u) (at u′) us) (total-same n m s s′ cs p p′ ps e₃) (sum-same m (at v) (at v′) vs))
     (λ e₆. refl))))))
   where

@@ -19,6 +19,10 @@ use Rattle.matching.proofs.Beyond as beyond
 pub leaving-out-is-never-cheap : mostTracks * (scoreEnd - 1) < leftOut
 leaving-out-is-never-cheap = duality.bound
 
+-- So the scores of any valid pairing come to less than that.
+pub scores-stay-under : (S : Sheet) (P : ℕ → ℕ) → InRange S → ValidPairing S P → scoreSum S P < leftOut
+scores-stay-under = duality.scores-few
+
 -- ---- certificates
 
 -- What a certificate shows is so: its pairing is best.
@@ -72,6 +76,10 @@ all-are-served S P Q b q all =
 pub no-report-unused : (S : Sheet) (P : ℕ → ℕ) → Best S P → S .reports ≤ none → (i j : ℕ) → i < S .tracks → P i ≡ none → j < S .reports → Admissible S i j → (k : ℕ) × ((k < S .tracks) × (P k ≡ j))
 no-report-unused = unused.no-unused
 
+-- A pairing is what it says of the tracks that are there.
+pub best-alike : (S : Sheet) (P Q : ℕ → ℕ) → Alike (S .tracks) P Q → Best S P → Best S Q
+best-alike = same.best-same
+
 -- Best over lists of report numbers, and best over functions, say the same.
 pub list-is-best : (S : Sheet) (p : List ℕ) → BestList S p → Best S (at p)
 list-is-best = same.list-best
@@ -93,57 +101,56 @@ not-refused n m s pairing prices discounts e =
 pub ready-is-not-refused : (n m : ℕ) (s : List ℕ) (pairing prices discounts : ℕ) → Sizes n m (length s) pairing prices discounts → InRange (sheetOf n m s) → sheetRefusal n m s pairing prices discounts 0 ≡ 0
 ready-is-not-refused n m s pairing prices discounts z r = facts.ready-passes n m s pairing prices discounts z r 0
 
-module _ (n m : ℕ) (s u v : List ℕ) where
-  -- The answer is 0 just where the lists are long enough and hold a certificate.
-  pub zero-certificate : (p : List ℕ) → checkAnswer n m s p u v ≡ 0 → Fits n m s p u v × Certificate (sheetOf n m s) (at p) (at u) (at v)
-  unfolding checkAnswer sheetRefusal totalsOk
-  zero-certificate p e =
-      let a₁ = refuse-none 20 _ _ e in
-      let a₂ = refuse-none 21 _ _ (a₁ .1) in
-      let a₃ = refuse-none 22 _ _ (a₂ .1) in
-      let a₄ = refuse-none 23 _ _ (a₃ .1) in
-      let a₅ = refuse-none 24 _ _ (a₄ .1) in
-      let a₆ = refuse-none 25 _ _ (a₅ .1) in
-      let z = facts.sizes n m (length s) (length p) (length u) (length v) (a₁ .0) in (
-        z,
-        record {
-          range = facts.in-range n m s (z .tracks-few) (a₂ .0);
-          valid = facts.valid (sheetOf n m s) (at p) (a₃ .0);
-          fair = facts.fair (sheetOf n m s) (at u) (at v) (a₄ .0) (a₅ .0);
-          totals = eqb-true _ _ (a₆ .0);
-        },
-      )
-
-  pub certificate-zero : (p : List ℕ) → Fits n m s p u v → Certificate (sheetOf n m s) (at p) (at u) (at v) → checkAnswer n m s p u v ≡ 0
-  unfolding checkAnswer sheetRefusal totalsOk
-  certificate-zero p z c =
-      rw (
-        facts.sizes-ok n m (length s) (length p) (length u) (length v) z,
-        facts.cells-ok n m s (c .range),
-        facts.pairing-ok (sheetOf n m s) (at p) (c .valid),
-        facts.numbers-ok (sheetOf n m s) (at u) (at v) (c .fair),
-        facts.scores-ok (sheetOf n m s) (at u) (at v) (c .fair),
-        eq-eqb _ _ (c .totals),
-      )
-
-  -- What the check accepts is best.
-  pub zero-is-best : (p : List ℕ) → checkAnswer n m s p u v ≡ 0 → Best (sheetOf n m s) (at p)
-  zero-is-best p e = accepted-is-best (sheetOf n m s) (at p) (at u) (at v) (zero-certificate p e .1)
-
-  -- With the numbers that it accepted for one pairing it accepts every best pairing.
-  pub best-is-zero : (p q : List ℕ) → checkAnswer n m s p u v ≡ 0 → n ≤ length q → Best (sheetOf n m s) (at q) → checkAnswer n m s q u v ≡ 0
-  best-is-zero p q e l b =
-      let c = zero-certificate p e in
-      let z : Fits n m s q u v =
+-- The answer is 0 just where the lists are long enough and hold a certificate.
+pub zero-certificate : (n m : ℕ) (s p u v : List ℕ) → checkAnswer n m s p u v ≡ 0 → Fits n m s p u v × Certificate (sheetOf n m s) (at p) (at u) (at v)
+unfolding checkAnswer sheetRefusal totalsOk
+zero-certificate n m s p u v e =
+    let a₁ = refuse-none _ _ _ e tt in
+    let a₂ = refuse-none _ _ _ (a₁ .1) tt in
+    let a₃ = refuse-none _ _ _ (a₂ .1) tt in
+    let a₄ = refuse-none _ _ _ (a₃ .1) tt in
+    let a₅ = refuse-none _ _ _ (a₄ .1) tt in
+    let a₆ = refuse-none _ _ _ (a₅ .1) tt in
+    let z = facts.sizes n m (length s) (length p) (length u) (length v) (a₁ .0) in (
+      z,
       record {
-        tracks-few = c .0 .tracks-few;
-        reports-few = c .0 .reports-few;
-        cells-long = c .0 .cells-long;
-        pairing-long = l;
-        prices-long = c .0 .prices-long;
-        discounts-long = c .0 .discounts-long;
-      } in
-      certificate-zero q z (best-is-accepted (sheetOf n m s) (at p) (at q) (at u) (at v) (c .1) b)
+        range = facts.in-range n m s (z .tracks-few) (a₂ .0);
+        valid = facts.valid (sheetOf n m s) (at p) (a₃ .0);
+        fair = facts.fair (sheetOf n m s) (at u) (at v) (a₄ .0) (a₅ .0);
+        totals = eqb-true _ _ (a₆ .0);
+      },
+    )
+
+pub certificate-zero : (n m : ℕ) (s p u v : List ℕ) → Fits n m s p u v → Certificate (sheetOf n m s) (at p) (at u) (at v) → checkAnswer n m s p u v ≡ 0
+unfolding checkAnswer sheetRefusal totalsOk
+certificate-zero n m s p u v z c =
+    rw (
+      facts.sizes-ok n m (length s) (length p) (length u) (length v) z,
+      facts.cells-ok n m s (c .range),
+      facts.pairing-ok (sheetOf n m s) (at p) (c .valid),
+      facts.numbers-ok (sheetOf n m s) (at u) (at v) (c .fair),
+      facts.scores-ok (sheetOf n m s) (at u) (at v) (c .fair),
+      eq-eqb _ _ (c .totals),
+    )
+
+-- What the check accepts is best.
+pub zero-is-best : (n m : ℕ) (s p u v : List ℕ) → checkAnswer n m s p u v ≡ 0 → Best (sheetOf n m s) (at p)
+zero-is-best n m s p u v e = accepted-is-best (sheetOf n m s) (at p) (at u) (at v) (zero-certificate n m s p u v e .1)
+
+-- With the numbers that it accepted for one pairing it accepts every best pairing.
+pub best-is-zero : (n m : ℕ) (s p q u v : List ℕ) → checkAnswer n m s p u v ≡ 0 → n ≤ length q → Best (sheetOf n m s) (at q) → checkAnswer n m s q u v ≡ 0
+best-is-zero n m s p q u v e l b =
+    let c = zero-certificate n m s p u v e in
+    let z : Fits n m s q u v =
+    record {
+      tracks-few = c .0 .tracks-few;
+      reports-few = c .0 .reports-few;
+      cells-long = c .0 .cells-long;
+      pairing-long = l;
+      prices-long = c .0 .prices-long;
+      discounts-long = c .0 .discounts-long;
+    } in
+    certificate-zero n m s q u v z (best-is-accepted (sheetOf n m s) (at p) (at q) (at u) (at v) (c .1) b)
 
 -- All that the answer 0 says of a pairing p of n tracks with m reports.
 pub record Accepted (n m : ℕ) (s p u v : List ℕ) : Type 0 where
@@ -162,12 +169,12 @@ pub record Accepted (n m : ℕ) (s p u v : List ℕ) : Type 0 where
 pub zero-says : (n m : ℕ) (s p u v : List ℕ) → checkAnswer n m s p u v ≡ 0 → Accepted n m s p u v
 zero-says n m s p u v e =
     let S : Sheet = sheetOf n m s in
-    let b : Best S (at p) = zero-is-best n m s u v p e in
-    let z = zero-certificate n m s u v p e .0 in
+    let b : Best S (at p) = zero-is-best n m s p u v e in
+    let z = zero-certificate n m s p u v e .0 in
     record {
       best = best-is-list S p (z .pairing-long) b;
       ties = λ q c. best-agree S (at p) (at q) b (list-is-best S q c);
-      every = λ q c. best-is-zero n m s u v p q e (c .long) (list-is-best S q c);
+      every = λ q c. best-is-zero n m s p q u v e (c .long) (list-is-best S q c);
       fewest = λ q. fewest-misses S (at p) (at q) b;
       served = λ q. all-are-served S (at p) (at q) b;
       used = no-report-unused S (at p) b (omega (arith, z .reports-few));
@@ -177,3 +184,8 @@ zero-says n m s p u v e =
 -- there have the same answer.
 pub beyond-is-not-read : (n m : ℕ) (s s′ p p′ u u′ v v′ : List ℕ) → Fits n m s p u v → Fits n m s′ p′ u′ v′ → Alike (n * m) (at s) (at s′) → Alike n (at p) (at p′) → Alike n (at u) (at u′) → Alike m (at v) (at v′) → checkAnswer n m s p u v ≡ checkAnswer n m s′ p′ u′ v′
 beyond-is-not-read = beyond.answer-same
+
+-- So a certificate in lists is one in all lists that are the same up to there.
+pub certificate-alike : (n m : ℕ) (s s′ p p′ u u′ v v′ : List ℕ) → Fits n m s p u v → Fits n m s′ p′ u′ v′ → Alike (n * m) (at s) (at s′) → Alike n (at p) (at p′) → Alike n (at u) (at u′) → Alike m (at v) (at v′) → Certificate (sheetOf n m s) (at p) (at u) (at v) → Certificate (sheetOf n m s′) (at p′) (at u′) (at v′)
+certificate-alike n m s s′ p p′ u u′ v v′ z z′ cs ps us vs c =
+    zero-certificate n m s′ p′ u′ v′ (sym (beyond-is-not-read n m s s′ p p′ u u′ v v′ z z′ cs ps us vs) ∙ certificate-zero n m s p u v z c) .1
