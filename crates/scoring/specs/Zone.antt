@@ -24,7 +24,7 @@ abbrev pub innerSigmas : ℕ
 innerSigmas = 4
 
 -- 8 + 4 x misses
-unfoldable pub outerSigmas : Track → ℕ
+abbrev pub outerSigmas : Track → ℕ
 outerSigmas t = 8 + 4 * t .misses
 
 -- how far 600 knots reach across in a scan, in azimuth units at range 1
@@ -39,9 +39,9 @@ azimuthReach range = min azimuthSpeedMost (crossReach / max range 1)
 unfoldable pub withinReach : Track → Report → Bool
 withinReach t p = leb (rangeOff t p) rangeSpeedMost && leb (azimuthOff t p) (azimuthReach (t .range))
 
-unfoldable pub outer : Track → Report → Site → Bool
-outer t p g = cond (ltb 1 (t .updates)) (withinSigmas (outerSigmas t) t p g) (withinReach t p)
+unfoldable pub withinOuter : Track → Report → Site → Bool
+withinOuter t p g = cond (ltb 1 (t .updates)) (withinSigmas (outerSigmas t) t p g) (withinReach t p)
 
 -- the zone's digit: inner (tested first) 3, outer 6; 0 for a pair that is not admissible
 unfoldable pub zoneOf : Track → Report → Site → ℕ
-zoneOf t p g = cond (withinSigmas innerSigmas t p g) 3 (cond (outer t p g) 6 0)
+zoneOf t p g = cond (withinSigmas innerSigmas t p g) 3 (cond (withinOuter t p g) 6 0)
