@@ -1,9 +1,9 @@
 -- Laws of `largest`, the largest number of 1..n that a test holds of; and a search that halves an interval. Assumes nothing.
-use Prim.Native.Nat.{ℕ, zero, suc, _+_, _-_, _≤_, _<_}
-use mathlib.Core.Path.{_≡_, refl}
+use Prim.Native.Nat.{ℕ, zero, suc, _+_, _*_, _/_, _^_, _≤_, _<_}
+use mathlib.Core.Path.{_≡_, refl, _∙_}
 use mathlib.Core.Bool.{Bool, true, false, cond}
 use mathlib.Core.Logic.{⊎-elim, _↔_}
-use native.Mathlib.Nat.{le-refl, le-step, le-antisymm, eq-or-lt-of-le, le-of-suc-le-suc, not-suc-le-zero}
+use native.Mathlib.Nat.{le-refl, le-step, le-antisymm, eq-or-lt-of-le, le-of-suc-le-suc, not-suc-le-zero, pow-zero, pow-succ'}
 use native.Mathlib.Decide.{decLt}
 use native.Mathlib.Omega.{arith}
 use Rattle.laws.proofs.Tests.{clash}
@@ -80,24 +80,33 @@ largest-monotone p q n h = go (decLt 0 (largest p n))
     go (yes k) = largest-reached q n (largest p n) (largest-most p n) (h (largest p n) (largest-holds p n k))
     go (no k) = omega arith
 
--- ---- a search that halves: the largest is low or more, and below high
+-- ---- a search that halves: the largest is one of the `width` numbers from `low` on, and the width is a power of 2
 
-pub record Between (p : ℕ → Bool) (n low high : ℕ) : Type 0 where
+pub record Among (p : ℕ → Bool) (n low width : ℕ) : Type 0 where
   pub above : low ≤ largest p n
-  pub below : largest p n < high
-  pub within : high ≤ suc n
+  pub below : largest p n < low + width
+  pub within : low + width ≤ suc n
+  pub power : (k : ℕ) × (width ≡ 2 ^ k)
+
+halved : (width k : ℕ) → width ≡ 2 ^ k → 1 < width → (width ≡ width / 2 + width / 2) × ((j : ℕ) × (width / 2 ≡ 2 ^ j))
+halved width zero e h = absurd (omega (arith, pow-zero 2))
+halved width (suc j) e h =
+    let d : width ≡ 2 * 2 ^ j = e ∙ pow-succ' 2 j in
+    (omega arith, (j, omega arith))
 
 module _ (p : ℕ → Bool) (n : ℕ) where
-  pub between-all : Between p n 0 (suc n)
-  between-all = record { above = omega arith; below = omega (arith, largest-most p n); within = omega arith }
+  pub among-all : (k : ℕ) → suc n ≡ 2 ^ k → Among p n 0 (suc n)
+  among-all k e = record { above = omega arith; below = omega (arith, largest-most p n); within = omega arith; power = (k, e) }
 
-  pub between-half : {low high : ℕ} (m : ℕ) (b : Bool) → Downward p n → Between p n low high → low < m → m < high → p m ≡ b → Between p n (cond b m low) (cond b high m)
-  between-half m true d w l h e = record { above = largest-reached p n m (omega arith) e; below = w .below; within = w .within }
-  between-half m false d w l h e = record { above = w .above; below = largest-missed p n m d (omega arith) e; within = omega arith }
+  pub among-half : {low width : ℕ} (b : Bool) → Downward p n → Among p n low width → 1 < width → p (low + width / 2) ≡ b → Among p n (cond b (low + width / 2) low) (width / 2)
+  among-half {low} {width} b d w h e = go b e
+    where
+      half : (width ≡ width / 2 + width / 2) × ((j : ℕ) × (width / 2 ≡ 2 ^ j))
+      half = halved width (w .power .0) (w .power .1) h
 
-  pub between-end : {low high : ℕ} → Between p n low high → high ≤ low + 1 → low ≡ largest p n
-  between-end w h = omega arith
+      go : (b : Bool) → p (low + width / 2) ≡ b → Among p n (cond b (low + width / 2) low) (width / 2)
+      go true e = record { above = largest-reached p n (low + width / 2) (omega (arith, half .0)) e; below = omega (arith, half .0); within = omega (arith, half .0); power = half .1 }
+      go false e = record { above = w .above; below = largest-missed p n (low + width / 2) d (omega arith) e; within = omega arith; power = half .1 }
 
-pub half-less : {low high : ℕ} (m : ℕ) (b : Bool) → low < m → m < high → cond b high m - cond b m low < high - low
-half-less m true l h = omega arith
-half-less m false l h = omega arith
+  pub among-end : {low width : ℕ} → Among p n low width → width ≤ 1 → low ≡ largest p n
+  among-end w h = omega arith

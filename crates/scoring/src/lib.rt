@@ -132,7 +132,8 @@ fn choose(first: bool, a: u64, b: u64) -> u64
     if first { a } else { b }
 }
 
-// Halves the interval from low up to high, high not in it, until one number is left.
+// Halves the interval of `width` numbers from `low` on until one is left. The width depends on no test, so that the compiler
+// can write out the nine turns without a branch.
 fn position_number(dr: u64, da: u64, range_sigma: u8, azimuth_sigma: u8) -> u32
     requires { ⌜ (dr ≤ rangeMost) × (da ≤ halfTurn) ⌝ }
     ensures { λ r. ⌜ r ≡ positionOf dr da «range_sigma» «azimuth_sigma» ⌝ }
@@ -140,12 +141,12 @@ fn position_number(dr: u64, da: u64, range_sigma: u8, azimuth_sigma: u8) -> u32
     let sigmas = square(by_sigma(range_sigma as u64, azimuth_sigma));
     let off = 64 * (square(by_sigma(dr, azimuth_sigma)) + square(by_sigma(da, range_sigma)));
     let mut low: u64 = 0;
-    let mut high: u64 = POSITION_MOST + 1;
-    while low + 1 < high {
-        let middle = (low + high) / 2;
+    let mut width: u64 = POSITION_MOST + 1;
+    while 1 < width {
+        width = width / 2;
+        let middle = low + width;
         let up = reached(middle, sigmas, off);
         low = choose(up, middle, low);
-        high = choose(up, high, middle);
     }
     low as u32
 }

@@ -1,21 +1,21 @@
-use Prim.Native.Nat.{_+_, _-_, _*_, _/_, _^_, _≤_, _<_}
-use mathlib.Core.Path.{_≡_}
+use Prim.Native.Nat.{_+_, _*_, _/_, _^_, _≤_, _<_}
+use mathlib.Core.Path.{_≡_, refl}
 use native.Mathlib.Omega.{arith}
 use borrow.Author.Needs.{needs}
 use Rattle.scoring.specs.Position.{positionMost, reaches, positionOf}
-use Rattle.scoring.proofs.Largest.{Between, between-all, between-half, between-end, half-less}
+use Rattle.scoring.proofs.Largest.{Among, among-all, among-half, among-end}
 use Rattle.scoring.proofs.PositionLaws.{sides-fit, sigma-product, reaches-downward}
 use Rattle.scoring.proofs.position_number.Statement.{statement}
 use Rattle.scoring.proofs.position_number.Tie as tie
 
 abbrev Inv-loop : tie.InvT-loop
-Inv-loop dr da range-sigma azimuth-sigma sigmas off low₀ high₀ low high =
-    Between (reaches dr da range-sigma azimuth-sigma) positionMost low high
+Inv-loop dr da range-sigma azimuth-sigma sigmas off low₀ width₀ low width =
+    Among (reaches dr da range-sigma azimuth-sigma) positionMost low width
 
 abbrev μ-loop : tie.MeasureT-loop
-μ-loop dr da range-sigma azimuth-sigma sigmas off low₀ high₀ low high = high - low
+μ-loop dr da range-sigma azimuth-sigma sigmas off low₀ width₀ low width = width
 
--- the square of the distance, 64 times, fits
+-- the right side of the rule fits
 off-fits : (c : tie.After-square3 Inv-loop μ-loop) → 64 * (c .before .before .square2 .result + c .square3 .result) < 2 ^ 63
 off-fits c =
     let s = c .before .before .before .before .before .before .args in
@@ -25,7 +25,7 @@ off-fits c =
 -- the code's test is the rule's
 told : (c : tie.After-reached Inv-loop μ-loop) →
     let s = c .before .before .before .before .before .before .before .before .before .args in
-    reaches (s .dr) (s .da) (s .range-sigma) (s .azimuth-sigma) ((c .before .before .loop .low + c .before .before .loop .high) / 2) ≡ c .reached .result
+    reaches (s .dr) (s .da) (s .range-sigma) (s .azimuth-sigma) (c .before .before .loop .low + c .before .before .loop .width / 2) ≡ c .reached .result
 unfolding reaches
 told c = cc
 
@@ -59,14 +59,11 @@ add-off c = omega (arith, off-fits c)
 mul-off : tie.Need-mul-off Inv-loop μ-loop
 mul-off c = omega (arith, off-fits c)
 
-add-high : tie.Need-add-high Inv-loop μ-loop
-add-high c = search needs
+add-width : tie.Need-add-width Inv-loop μ-loop
+add-width c = search needs
 
 loop-holds : tie.Need-loop-holds Inv-loop μ-loop
-loop-holds c = between-all _ positionMost
-
-add-loop : tie.Need-add-loop Inv-loop μ-loop
-add-loop c = search needs
+loop-holds c = among-all _ positionMost 9 refl
 
 add-middle : tie.Need-add-middle Inv-loop μ-loop
 add-middle c = search needs
@@ -74,33 +71,27 @@ add-middle c = search needs
 reached-requires : tie.Need-reached-requires Inv-loop μ-loop
 reached-requires c κs =
     let s = c .before .before .before .before .before .before .before .before .args in
-    let m = (c .before .loop .low + c .before .loop .high) / 2 in
+    let m = c .before .loop .low + c .before .loop .width / 2 in
     let h : m ≤ positionMost = omega arith in
     (omega arith, (h, rw (c .before .before .before .before .before .before .square .ensures, c .before .before .before .before .before .before .before .by-sigma .ensures) (sides-fit (s .dr) (s .da) (s .range-sigma) (s .azimuth-sigma) m (omega arith) (omega arith) (omega arith) (omega arith) h .0)))
 
 choose-requires : tie.Need-choose-requires Inv-loop μ-loop
 choose-requires c κs = search needs
 
-choose-requires-2 : tie.Need-choose-requires-2 Inv-loop μ-loop
-choose-requires-2 c κs = search needs
-
 loop-less : tie.Need-loop-less Inv-loop μ-loop
-loop-less c =
-    let m = (c .before .before .before .before .loop .low + c .before .before .before .before .loop .high) / 2 in
-    rw (c .before .choose .ensures, c .choose2 .ensures) (half-less m (c .before .before .reached .result) (omega arith) (omega arith))
+loop-less c = search needs
 
 loop-again : tie.Need-loop-again Inv-loop μ-loop
 loop-again c =
-    let m = (c .before .before .before .before .loop .low + c .before .before .before .before .loop .high) / 2 in
-    rw (c .before .choose .ensures, c .choose2 .ensures)
-    (between-half _ positionMost m (c .before .before .reached .result) (reaches-downward _ _ _ _ positionMost) (c .before .before .before .before .loop .inv) (omega arith) (omega arith) (told (c .before .before)))
+    rw (c .choose .ensures)
+    (among-half _ positionMost (c .before .reached .result) (reaches-downward _ _ _ _ positionMost) (c .before .before .before .loop .inv) (c .before .before .loop-test .taken) (told (c .before)))
 
 cast-result : tie.Need-cast-result Inv-loop μ-loop
 cast-result c = search needs
 
 returns : tie.Need-returns Inv-loop μ-loop
 unfolding positionOf
-returns c = between-end _ positionMost (c .before .loop .inv) (c .loop-test .left)
+returns c = among-end _ positionMost (c .before .loop .inv) (c .loop-test .left)
 
 pub position-number-spec : {M : Type 1} → statement M
 position-number-spec =
@@ -116,13 +107,11 @@ position-number-spec =
     square-requires-3
     add-off
     mul-off
-    add-high
+    add-width
     loop-holds
-    add-loop
     add-middle
     reached-requires
     choose-requires
-    choose-requires-2
     loop-less
     loop-again
     cast-result
