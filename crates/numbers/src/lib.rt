@@ -130,7 +130,7 @@ pub fn rounded(z: Int, d: u32) -> Int
 }
 
 // The lesser of two sizes.
-fn lesser(a: u64, b: u64) -> u64
+pub fn lesser(a: u64, b: u64) -> u64
     ensures { λ r. ⌜ r ≡ min a b ⌝ }
 {
     if a < b { a } else { b }
