@@ -1,0 +1,4 @@
+-- Laws of a sector's sheet.
+pub mod Due
+pub mod Rows
+pub mod Answers
