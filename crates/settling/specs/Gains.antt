@@ -1,0 +1,27 @@
+-- The gains a and b, in tenths (01, 'After pairing'; 002). Quality and confidence are the report's. Assumes nothing.
+use Prim.Native.Nat.{ℕ, zero, suc}
+use mathlib.Core.Bool.{cond}
+use mathlib.Core.List.{List, [], _∷_}
+use lib.Dec.{leb, eqb}
+use lib.ListN.{getD}
+use Rattle.records.specs.declared.Track.{Track}
+use Rattle.records.specs.declared.Report.{Report}
+
+-- a by quality; columns are confidence 0..7
+unfoldable pub rowA : ℕ → List ℕ
+rowA zero = 6 ∷ 6 ∷ 6 ∷ 6 ∷ 6 ∷ 6 ∷ 6 ∷ 10 ∷ []
+rowA (suc zero) = 6 ∷ 6 ∷ 6 ∷ 9 ∷ 9 ∷ 9 ∷ 9 ∷ 10 ∷ []
+rowA (suc (suc q)) = 6 ∷ 6 ∷ 6 ∷ 10 ∷ 9 ∷ 10 ∷ 10 ∷ 10 ∷ []
+
+-- b by quality; columns are confidence 0..7
+unfoldable pub rowB : ℕ → List ℕ
+rowB zero = 3 ∷ 3 ∷ 3 ∷ 3 ∷ 3 ∷ 3 ∷ 3 ∷ 10 ∷ []
+rowB (suc zero) = 3 ∷ 3 ∷ 3 ∷ 7 ∷ 6 ∷ 7 ∷ 7 ∷ 10 ∷ []
+rowB (suc (suc q)) = 3 ∷ 3 ∷ 3 ∷ 9 ∷ 6 ∷ 9 ∷ 9 ∷ 10 ∷ []
+
+-- updates 1 before the pairing gives 10 and 10 in every case; azimuth-degrade 1 gives 6 and 3
+unfoldable pub gainA : Track → Report → ℕ
+gainA t p = cond (leb (t .updates) 1) 10 (cond (eqb (p .«azimuth_degrade») 1) 6 (getD (rowA (p .quality)) (p .confidence) 0))
+
+unfoldable pub gainB : Track → Report → ℕ
+gainB t p = cond (leb (t .updates) 1) 10 (cond (eqb (p .«azimuth_degrade») 1) 3 (getD (rowB (p .quality)) (p .confidence) 0))
