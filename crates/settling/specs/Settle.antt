@@ -1,8 +1,8 @@
 -- Update, coast, drop, start and ageing of one track (01, 'After pairing'). Assumes nothing.
-use Prim.Native.Nat.{ℕ, _+_, _-_, _*_, min}
+use Prim.Native.Nat.{ℕ, _+_, _-_, _*_, _≤_, min}
 use mathlib.Core.Bool.{cond}
-use lib.Dec.{ltb, eqb}
-use lib.IntN.{ℤ, pos, negℤ, _+ℤ_, _-ℤ_, _*ℤ_}
+use lib.Dec.{ltb}
+use lib.IntN.{ℤ, pos, negℤ, natAbs, _+ℤ_, _-ℤ_, _*ℤ_}
 use Rattle.numbers.specs.Scales.{rangeMost, rangeSpeedMost, azimuthSpeedMost}
 use Rattle.numbers.specs.Whole.{rounded, heldWithin, heldFromZero}
 use Rattle.numbers.specs.Azimuth.{azimuthDifference, azimuthMoved}
@@ -10,20 +10,32 @@ use Rattle.numbers.specs.Sectors.{sectorOf, callsAhead}
 use Rattle.numbers.specs.declared.Int.{Int}
 use Rattle.records.specs.declared.Track.{Track}
 use Rattle.records.specs.declared.Report.{Report}
-use Rattle.records.specs.Fields.{held, allowance}
-use Rattle.settling.specs.declared.Coasted.{Coasted}
-use Rattle.settling.specs.declared.Coasted.the-variants.{Kept, Dropped}
-use Rattle.settling.specs.Gains.{gainA, gainB}
+use Rattle.records.specs.Fields.{held, confidenceMost, qualityMost, allowance}
+use Rattle.settling.specs.declared.Unpaired.{Unpaired}
+use Rattle.settling.specs.declared.Unpaired.the-variants.{Kept, Dropped}
+use Rattle.settling.specs.Gains.{tenths, updatesAtStart, gainA, gainB}
+
+-- ---- what a well-formed track and a checked report bring along
+
+pub record SoundTrack (t : Track) : Type 0 where
+  pub range-in : t .range ≤ rangeMost
+  pub range-speed-in : natAbs (t .«range_speed» .v) ≤ rangeSpeedMost
+  pub azimuth-speed-in : natAbs (t .«azimuth_speed» .v) ≤ azimuthSpeedMost
+
+pub record SoundReport (p : Report) : Type 0 where
+  pub range-in : p .range ≤ rangeMost
+  pub confidence-in : p .confidence ≤ confidenceMost
+  pub quality-in : p .quality ≤ qualityMost
 
 -- ---- one coordinate: D = predicted - reported, f = misses + 1, a and b in tenths
 
 -- new speed = speed - bD/(10f), held to the speed range
 unfoldable pub newSpeed : (most : ℕ) (speed D : ℤ) (b f : ℕ) → ℤ
-newSpeed most speed D b f = heldWithin most (speed -ℤ rounded (D *ℤ pos b) (10 * f))
+newSpeed most speed D b f = heldWithin most (speed -ℤ rounded (D *ℤ pos b) (tenths * f))
 
 -- aD/10
 unfoldable pub correction : (D : ℤ) (a : ℕ) → ℤ
-correction D a = rounded (D *ℤ pos a) 10
+correction D a = rounded (D *ℤ pos a) tenths
 
 -- smoothed = predicted - aD/10; a range is held to 0..66,560, an azimuth goes round
 unfoldable pub smoothedRange : (predicted : ℕ) (D : ℤ) (a : ℕ) → ℕ
@@ -103,7 +115,7 @@ missedOf t s = record {
 }
 
 -- if misses + 1 exceeds the allowance it is dropped
-unfoldable pub coastedOf : Track → ℕ → Coasted
+unfoldable pub coastedOf : Track → ℕ → Unpaired
 coastedOf t s = cond (ltb (allowance (t .updates)) (t .misses + 1)) Dropped (Kept (missedOf t s))
 
 -- ---- a report that starts a track
@@ -115,7 +127,7 @@ startedOf p s = record {
   azimuth = p .azimuth;
   «range_speed» = record { v = pos 0 };
   «azimuth_speed» = record { v = pos 0 };
-  updates = 1;
+  updates = updatesAtStart;
   misses = 0;
   confidence = p .confidence;
   quality = p .quality;

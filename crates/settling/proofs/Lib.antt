@@ -1,0 +1,2 @@
+-- Laws of what becomes of a track.
+pub mod GainLaws
