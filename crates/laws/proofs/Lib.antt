@@ -5,4 +5,5 @@ pub mod Search
 pub mod Filled
 pub mod InPlace
 pub mod Fold
+pub mod Listed
 pub mod Sizes

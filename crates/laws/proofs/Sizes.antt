@@ -1,13 +1,14 @@
 -- The size of a signed number, natAbs, which omega reads as a number; and a difference of two naturals, by which is larger.
 -- Assumes nothing.
-use Prim.Native.Nat.{ℕ, zero, suc, _+_, _-_, _*_, _≤_, _<_}
-use mathlib.Core.Path.{_≡_, refl, ap}
+use Prim.Native.Nat.{ℕ, zero, suc, _+_, _-_, _*_, _≤_, _<_, min, max}
+use mathlib.Core.Path.{_≡_, refl, ap, sym}
 use mathlib.Core.Bool.{Bool, true, false, not, cond}
-use native.Mathlib.Nat.{le-refl}
+use native.Mathlib.Nat.{le-refl, mul-zero}
+use native.Mathlib.Decide.{decLt}
 use native.Mathlib.Omega.{arith}
 use borrow.Author.Tests.{le-ltb, lt-ltb}
 use lib.Dec.{T, ltb, ltb→lt}
-use lib.IntN.{ℤ, pos, negsuc, negℤ, natAbs, subℕ, _+ℤ_, _-ℤ_, _*ℤ_}
+use lib.IntN.{ℤ, pos, negsuc, negℤ, natAbs, subℕ, _+ℤ_, _-ℤ_, _*ℤ_, negℤ-+ℤ, pos-*ℤ-negsuc}
 use lib.Signed.{mag}
 
 pub mag-size : (z : ℤ) → mag z ≤ natAbs z
@@ -63,3 +64,22 @@ minus-more a zero h = ap pos (same a)
     same : (a : ℕ) → a + 0 ≡ a - 0
     same a = omega arith
 minus-more a (suc b) h = rw (le-ltb a (suc b) h)
+
+pub difference-size : (a b : ℕ) → natAbs (pos a -ℤ pos b) ≡ max a b - min a b
+difference-size a b = go (decLt a b)
+  where
+    go : Dec (a < b) → natAbs (pos a -ℤ pos b) ≡ max a b - min a b
+    go (yes h) = rw (minus-less a b h, neg-size (pos (b - a))) (omega arith)
+    go (no h) = rw (minus-more a b (omega arith)) (omega arith)
+
+-- the same of two numbers turned round
+pub neg-difference-size : (a b : ℤ) → natAbs (negℤ a -ℤ negℤ b) ≡ natAbs (a -ℤ b)
+neg-difference-size a b = rw (← negℤ-+ℤ a (negℤ b)) (neg-size (a -ℤ b))
+
+-- -a - b, and d times -q
+pub neg-minus : (a b : ℕ) → negℤ (pos a) -ℤ pos b ≡ negℤ (pos (a + b))
+neg-minus a b = sym (negℤ-+ℤ (pos a) (pos b))
+
+pub times-neg : (d q : ℕ) → pos d *ℤ negℤ (pos q) ≡ negℤ (pos (d * q))
+times-neg d zero = rw (mul-zero d)
+times-neg d (suc q) = pos-*ℤ-negsuc d q

@@ -1,13 +1,14 @@
 -- Laws of `each`, a test of every number below n, and of `holds`, a list of tests. Assumes nothing.
 use Prim.Native.Nat.{ℕ, zero, suc, _+_, _≤_, _<_}
 use mathlib.Core.Path.{_≡_, refl}
-use mathlib.Core.Bool.{Bool, true, false, _&&_, _||_}
+use mathlib.Core.Bool.{Bool, true, false, not, _&&_, _||_}
 use mathlib.Core.List.{List, [], _∷_}
 use mathlib.Core.Logic.{⊎-elim}
-use native.Mathlib.Nat.{lt-suc-self, le-step, le-antisymm, eq-or-lt-of-le, le-of-suc-le-suc, not-suc-le-zero}
+use native.Mathlib.Nat.{suc-inj, lt-suc-self, le-step, le-antisymm, eq-or-lt-of-le, le-of-suc-le-suc, not-suc-le-zero}
 use native.Mathlib.Numerals.{add-one}
 use native.Mathlib.Omega.{arith}
-use lib.ListN.{getD}
+use lib.ListN.{getD, length}
+use Rattle.laws.specs.Lists.{firstIndex}
 use Rattle.laws.specs.Tests.{each, holds}
 
 -- ---- tests joined by and, or
@@ -96,3 +97,15 @@ unfolding holds
 one-fails [] k e = e
 one-fails (b ∷ bs) zero e = rw e
 one-fails (b ∷ bs) (suc k) e = and-fails b (holds bs) (one-fails bs k e)
+
+-- the first that fails is past the last: they all hold; and the other way round
+pub none-fails : (bs : List Bool) → firstIndex not bs ≡ length bs → Each bs
+unfolding firstIndex
+none-fails [] e = tt
+none-fails (true ∷ bs) e = (refl, none-fails bs (suc-inj e))
+none-fails (false ∷ bs) e = absurd (omega arith)
+
+pub all-pass : (bs : List Bool) → Each bs → firstIndex not bs ≡ length bs
+unfolding firstIndex
+all-pass [] w = refl
+all-pass (b ∷ bs) w = rw (w .0, all-pass bs (w .1))
