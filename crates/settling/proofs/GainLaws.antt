@@ -2,29 +2,39 @@
 use Prim.Native.Nat.{ℕ, _≤_}
 use mathlib.Core.Path.{_≡_, refl}
 use mathlib.Core.Bool.{Bool, true, false, cond}
-use mathlib.Core.List.{List, []}
+use mathlib.Core.List.{List, [], _∷_}
 use native.Mathlib.Omega.{arith}
 use borrow.Author.Tests.{eqb-true, leb-true}
 use lib.Dec.{leb, eqb}
 use lib.ListN.{getD}
 use Rattle.laws.specs.Tests.{each}
 use Rattle.laws.proofs.Tests.{each-at}
-use Rattle.records.specs.Fields.{confidenceMost, qualityMost}
+use Rattle.records.specs.Fields.{confidenceMost, qualityMost, Sound}
 use Rattle.records.specs.declared.Track.{Track}
 use Rattle.records.specs.declared.Report.{Report}
 use Rattle.settling.specs.Gains.{tenths, rowA, rowB, gain, gainA, gainB}
-use Rattle.settling.specs.Settle.{SoundReport}
 
 -- what a test over all qualities and confidences says of one
 everywhere : (f : ℕ → ℕ → Bool) (q k : ℕ) → each 4 (λ q. each 8 (f q)) ≡ true → q ≤ qualityMost → k ≤ confidenceMost → f q k ≡ true
 everywhere f q k e hq hk = each-at (f q) 8 k (each-at (λ q. each 8 (f q)) 4 q e (omega arith)) (omega arith)
 
--- a table that lists the rows has at quality q and confidence k what the row has
-abbrev listsRow : List (List ℕ) → (ℕ → List ℕ) → ℕ → ℕ → Bool
-listsRow table row q k = eqb (getD (getD table q []) k 0) (getD (row q) k 0)
+-- the rows as the code keeps them: at quality q and confidence k stands what row q has there
+abbrev pub table : (ℕ → List ℕ) → List (List ℕ)
+table row = row 0 ∷ row 1 ∷ row 2 ∷ row 3 ∷ []
 
-pub listed : (table : List (List ℕ)) (row : ℕ → List ℕ) (q k : ℕ) → each 4 (λ q. each 8 (listsRow table row q)) ≡ true → q ≤ qualityMost → k ≤ confidenceMost → getD (getD table q []) k 0 ≡ getD (row q) k 0
-listed table row q k e hq hk = eqb-true _ _ (everywhere (listsRow table row) q k e hq hk)
+abbrev lists : (ℕ → List ℕ) → ℕ → ℕ → Bool
+lists row q k = eqb (getD (getD (table row) q []) k 0) (getD (row q) k 0)
+
+listed : (row : ℕ → List ℕ) (p : Report) → each 4 (λ q. each 8 (lists row q)) ≡ true → Sound p → getD (getD (table row) (p .quality) []) (p .confidence) 0 ≡ getD (row (p .quality)) (p .confidence) 0
+listed row p e w = eqb-true _ _ (everywhere (lists row) (p .quality) (p .confidence) e (w .quality-in) (w .confidence-in))
+
+pub listedA : (p : Report) → Sound p → getD (getD (table rowA) (p .quality) []) (p .confidence) 0 ≡ getD (rowA (p .quality)) (p .confidence) 0
+unfolding rowA each
+listedA p w = listed rowA p refl w
+
+pub listedB : (p : Report) → Sound p → getD (getD (table rowB) (p .quality) []) (p .confidence) 0 ≡ getD (rowB (p .quality)) (p .confidence) 0
+unfolding rowB each
+listedB p w = listed rowB p refl w
 
 -- no gain exceeds ten tenths
 gain-most : (t : Track) (p : Report) (degraded entry : ℕ) → degraded ≤ tenths → entry ≤ tenths → gain t p degraded entry ≤ tenths
@@ -36,13 +46,13 @@ gain-most t p degraded entry hd he = go (eqb (t .updates) 1) (eqb (p .«azimuth_
     go false true = hd
     go false false = he
 
-entry-most : (row : ℕ → List ℕ) (p : Report) → each 4 (λ q. each 8 (λ k. leb (getD (row q) k 0) tenths)) ≡ true → SoundReport p → getD (row (p .quality)) (p .confidence) 0 ≤ tenths
+entry-most : (row : ℕ → List ℕ) (p : Report) → each 4 (λ q. each 8 (λ k. leb (getD (row q) k 0) tenths)) ≡ true → Sound p → getD (row (p .quality)) (p .confidence) 0 ≤ tenths
 entry-most row p e w = leb-true _ _ (everywhere (λ q k. leb (getD (row q) k 0) tenths) (p .quality) (p .confidence) e (w .quality-in) (w .confidence-in))
 
-pub gainA-most : (t : Track) (p : Report) → SoundReport p → gainA t p ≤ tenths
+pub gainA-most : (t : Track) (p : Report) → Sound p → gainA t p ≤ tenths
 unfolding gainA rowA each
 gainA-most t p w = gain-most t p _ _ (omega arith) (entry-most rowA p refl w)
 
-pub gainB-most : (t : Track) (p : Report) → SoundReport p → gainB t p ≤ tenths
+pub gainB-most : (t : Track) (p : Report) → Sound p → gainB t p ≤ tenths
 unfolding gainB rowB each
 gainB-most t p w = gain-most t p _ _ (omega arith) (entry-most rowB p refl w)

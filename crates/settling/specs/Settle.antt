@@ -10,22 +10,17 @@ use Rattle.numbers.specs.Sectors.{sectorOf, callsAhead}
 use Rattle.numbers.specs.declared.Int.{Int}
 use Rattle.records.specs.declared.Track.{Track}
 use Rattle.records.specs.declared.Report.{Report}
-use Rattle.records.specs.Fields.{held, confidenceMost, qualityMost, allowance}
+use Rattle.records.specs.Fields.{held, allowance}
 use Rattle.settling.specs.declared.Unpaired.{Unpaired}
 use Rattle.settling.specs.declared.Unpaired.the-variants.{Kept, Dropped}
 use Rattle.settling.specs.Gains.{tenths, updatesAtStart, gainA, gainB}
 
--- ---- what a well-formed track and a checked report bring along
+-- ---- what a step asks of a track: a well-formed one has it
 
-pub record SoundTrack (t : Track) : Type 0 where
+pub record Settleable (t : Track) : Type 0 where
   pub range-in : t .range ≤ rangeMost
   pub range-speed-in : natAbs (t .«range_speed» .v) ≤ rangeSpeedMost
   pub azimuth-speed-in : natAbs (t .«azimuth_speed» .v) ≤ azimuthSpeedMost
-
-pub record SoundReport (p : Report) : Type 0 where
-  pub range-in : p .range ≤ rangeMost
-  pub confidence-in : p .confidence ≤ confidenceMost
-  pub quality-in : p .quality ≤ qualityMost
 
 -- ---- one coordinate: D = predicted - reported, f = misses + 1, a and b in tenths
 

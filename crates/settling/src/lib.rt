@@ -3,9 +3,9 @@ ghost use mathlib.Core.Path.{_≡_};
 ghost use Prim.Native.Nat.{_+_, _*_, _≤_, _<_, min};
 ghost use lib.IntN.{pos, natAbs, _*ℤ_};
 ghost use Rattle.numbers.specs.Scales.{rangeMost, halfTurn, sectors, rangeSpeedMost, azimuthSpeedMost};
-ghost use Rattle.records.specs.Fields.{confidenceMost, qualityMost};
+ghost use Rattle.records.specs.Fields.{Sound};
 ghost use Rattle.settling.specs.Gains.{tenths, gain as Gains·gain, gainA, gainB};
-ghost use Rattle.settling.specs.Settle.{SoundTrack, SoundReport, newSpeed, correction as Settle·correction};
+ghost use Rattle.settling.specs.Settle.{Settleable, newSpeed, correction as Settle·correction};
 ghost use Rattle.settling.specs.Settle.{smoothedRange, smoothedAzimuth, rangeAhead, azimuthAhead, waitAfter};
 ghost use Rattle.settling.specs.Settle.{updatesMost, updatedOf, coastedOf, startedOf, agedOf};
 use numbers::Int;
@@ -61,7 +61,7 @@ fn gain(t: Track, p: Report, degraded: u32, listed: u32) -> u32
 }
 
 fn gain_a(t: Track, p: Report) -> u32
-    requires { ⌜ SoundReport p ⌝ }
+    requires { ⌜ Sound p ⌝ }
     ensures { λ r. ⌜ (r ≡ gainA t p) × (r ≤ tenths) ⌝ }
 {
     let quality = p.quality as usize;
@@ -70,7 +70,7 @@ fn gain_a(t: Track, p: Report) -> u32
 }
 
 fn gain_b(t: Track, p: Report) -> u32
-    requires { ⌜ SoundReport p ⌝ }
+    requires { ⌜ Sound p ⌝ }
     ensures { λ r. ⌜ (r ≡ gainB t p) × (r ≤ tenths) ⌝ }
 {
     let quality = p.quality as usize;
@@ -156,8 +156,8 @@ fn one_more_update(updates: u8) -> u8
 
 // A due track with its pair, served in sector s.
 pub fn updated(t: Track, p: Report, s: u8) -> Track
-    requires { ⌜ SoundTrack t ⌝ }
-    requires { ⌜ SoundReport p ⌝ }
+    requires { ⌜ Settleable t ⌝ }
+    requires { ⌜ Sound p ⌝ }
     requires { ⌜ s < sectors ⌝ }
     ensures { λ r. ⌜ r ≡ updatedOf t p s ⌝ }
 {
@@ -187,7 +187,7 @@ pub fn updated(t: Track, p: Report, s: u8) -> Track
 
 // A due track without a pair, in sector s: dropped where one more miss exceeds its allowance.
 pub fn coasted(t: Track, s: u8) -> Unpaired
-    requires { ⌜ SoundTrack t ⌝ }
+    requires { ⌜ Settleable t ⌝ }
     requires { ⌜ s < sectors ⌝ }
     ensures { λ r. ⌜ r ≡ coastedOf t s ⌝ }
 {

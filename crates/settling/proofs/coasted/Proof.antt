@@ -1,3 +1,8 @@
+use Prim.Native.Nat.{_+_}
+use Rattle.records.specs.Fields.{allowance}
+use Rattle.settling.specs.Settle.{coastedOf, missedOf}
+use native.Mathlib.Omega.{arith}
+use borrow.Author.Tests.{lt-ltb, le-ltb}
 use borrow.Author.Needs.{needs}
 use Rattle.settling.proofs.coasted.Statement.{statement}
 use Rattle.settling.proofs.coasted.Tie as tie
@@ -14,7 +19,10 @@ allowed-misses-requires c κs = search needs
 
 -- src/lib.rt:187:9
 returns : tie.Need-returns
-returns c = ?
+unfolding coastedOf
+returns c =
+    let s = c .before .before .before in
+    rw (lt-ltb (allowance (s .args .t .updates)) (s .args .t .misses + 1) (omega arith))
 
 -- src/lib.rt:191:9
 azimuth-ahead-requires : tie.Need-azimuth-ahead-requires
@@ -34,7 +42,10 @@ wait-after-requires c κs = search needs
 
 -- src/lib.rt:181:1
 returns-2 : tie.Need-returns-2
-returns-2 c = ?
+unfolding coastedOf missedOf
+returns-2 c =
+    let s = c .before .before .before .before .before .before .before .before .before in
+    rw (le-ltb (allowance (s .args .t .updates)) (s .args .t .misses + 1) (omega arith), c .wait-after .ensures, c .before .before .range-ahead .ensures, c .before .before .before .azimuth-ahead .ensures)
 
 pub coasted-spec : {M : Type 1} → statement M
 coasted-spec =

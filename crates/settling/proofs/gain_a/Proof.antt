@@ -1,7 +1,6 @@
-use Rattle.settling.proofs.GainLaws.{listed, gainA-most}
+use Rattle.settling.proofs.GainLaws.{listedA, gainA-most}
 use Rattle.settling.specs.Gains.{degradedA, rowA, gain, gainA}
-use Rattle.laws.specs.Tests.{each}
-use mathlib.Core.Path.{refl, ap, _∙_}
+use mathlib.Core.Path.{_≡_, ap, _∙_}
 use borrow.Author.Needs.{needs}
 use Rattle.settling.proofs.gain_a.Statement.{statement}
 use Rattle.settling.proofs.gain_a.Tie as tie
@@ -39,10 +38,10 @@ gain-requires c κs = search needs
 
 -- src/lib.rt:63:1
 returns : tie.Need-returns
-unfolding gainA rowA each
+unfolding gainA rowA
 returns c =
     let s = c .before .before .before .before in
-    let e = c .gain .ensures ∙ ap (gain (s .args .t) (s .args .p) degradedA) (listed _ rowA (s .args .p .quality) (s .args .p .confidence) refl (s .pre .quality-in) (s .pre .confidence-in)) in
+    let e : c .gain .result ≡ gainA (s .args .t) (s .args .p) = c .gain .ensures ∙ ap (gain (s .args .t) (s .args .p) degradedA) (listedA (s .args .p) (s .pre)) in
     (e, rw e (gainA-most (s .args .t) (s .args .p) (s .pre)))
 
 pub gain-a-spec : {M : Type 1} → statement M

@@ -1,7 +1,6 @@
-use Rattle.settling.proofs.GainLaws.{listed, gainB-most}
+use Rattle.settling.proofs.GainLaws.{listedB, gainB-most}
 use Rattle.settling.specs.Gains.{degradedB, rowB, gain, gainB}
-use Rattle.laws.specs.Tests.{each}
-use mathlib.Core.Path.{refl, ap, _∙_}
+use mathlib.Core.Path.{_≡_, ap, _∙_}
 use borrow.Author.Needs.{needs}
 use Rattle.settling.proofs.gain_b.Statement.{statement}
 use Rattle.settling.proofs.gain_b.Tie as tie
@@ -39,10 +38,10 @@ gain-requires c κs = search needs
 
 -- src/lib.rt:72:1
 returns : tie.Need-returns
-unfolding gainB rowB each
+unfolding gainB rowB
 returns c =
     let s = c .before .before .before .before in
-    let e = c .gain .ensures ∙ ap (gain (s .args .t) (s .args .p) degradedB) (listed _ rowB (s .args .p .quality) (s .args .p .confidence) refl (s .pre .quality-in) (s .pre .confidence-in)) in
+    let e : c .gain .result ≡ gainB (s .args .t) (s .args .p) = c .gain .ensures ∙ ap (gain (s .args .t) (s .args .p) degradedB) (listedB (s .args .p) (s .pre)) in
     (e, rw e (gainB-most (s .args .t) (s .args .p) (s .pre)))
 
 pub gain-b-spec : {M : Type 1} → statement M

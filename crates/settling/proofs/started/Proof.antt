@@ -1,3 +1,5 @@
+use Rattle.numbers.proofs.WholeLaws.{int-is}
+use Rattle.settling.specs.Settle.{startedOf}
 use borrow.Author.Needs.{needs}
 use Rattle.settling.proofs.started.Statement.{statement}
 use Rattle.settling.proofs.started.Tie as tie
@@ -16,7 +18,8 @@ wait-after-requires c κs = search needs
 
 -- src/lib.rt:207:1
 returns : tie.Need-returns
-returns c = ?
+unfolding startedOf
+returns c = rw (c .wait-after .ensures, int-is (c .before .whole .ensures .0))
 
 pub started-spec : {M : Type 1} → statement M
 started-spec = tie.close (tie.spec whole-requires wait-after-requires returns)

@@ -1,3 +1,5 @@
+use Rattle.numbers.proofs.WholeLaws.{int-is}
+use Rattle.settling.specs.Settle.{updatedOf, rangeD, azimuthD, updatedRange, updatedAzimuth, updatedRangeSpeed, updatedAzimuthSpeed}
 use borrow.Author.Needs.{needs}
 use Rattle.settling.proofs.updated.Statement.{statement}
 use Rattle.settling.proofs.updated.Tie as tie
@@ -69,11 +71,16 @@ one-more-update-requires c κs = search needs
 
 -- src/lib.rt:175:15
 wait-after-requires : tie.Need-wait-after-requires
-wait-after-requires c κs = ?
+wait-after-requires c κs = c .before .before .before .before .before .before .before .before .before .before .before .before .before .before .pre .1 .1
 
 -- src/lib.rt:150:1
 returns : tie.Need-returns
-returns c = ?
+unfolding updatedOf updatedRange updatedAzimuth updatedRangeSpeed updatedAzimuthSpeed rangeD azimuthD
+returns c =
+    let v = c .before .before .before .before .before .before in
+    let d = v .before .before .before .before in
+    let g = d .before .before .before in
+    rw (c .wait-after .ensures, c .before .one-more-update .ensures, c .before .before .range-ahead .ensures, c .before .before .before .smoothed-range .ensures, c .before .before .before .before .azimuth-ahead .ensures, c .before .before .before .before .before .smoothed-azimuth .ensures, int-is (v .new-speed2 .ensures .0), int-is (v .before .new-speed .ensures .0), d .azimuth-difference .ensures .0, d .before .difference .ensures .0, g .gain-b .ensures .0, g .before .gain-a .ensures .0)
 
 pub updated-spec : {M : Type 1} → statement M
 updated-spec =
