@@ -4,7 +4,7 @@ use mathlib.Core.Path.{_≡_, refl}
 use mathlib.Core.Bool.{Bool, true, false, cond}
 use mathlib.Core.List.{List, [], _∷_}
 use native.Mathlib.Omega.{arith}
-use borrow.Author.Tests.{eqb-true, leb-true}
+use borrow.Author.Tests.{eqb-true, leb-true, ne-eqb}
 use lib.Dec.{leb, eqb}
 use lib.ListN.{getD}
 use Rattle.laws.specs.Tests.{each}
@@ -12,7 +12,7 @@ use Rattle.laws.proofs.Tests.{each-at}
 use Rattle.records.specs.Fields.{confidenceMost, qualityMost, Sound}
 use Rattle.records.specs.declared.Track.{Track}
 use Rattle.records.specs.declared.Report.{Report}
-use Rattle.settling.specs.Gains.{tenths, rowA, rowB, gain, gainA, gainB}
+use Rattle.settling.specs.Gains.{tenths, degradedA, degradedB, updatesAtStart, rowA, rowB, gain, gainA, gainB}
 
 -- what a test over all qualities and confidences says of one
 everywhere : (f : ℕ → ℕ → Bool) (q k : ℕ) → each 4 (λ q. each 8 (f q)) ≡ true → q ≤ qualityMost → k ≤ confidenceMost → f q k ≡ true
@@ -36,7 +36,22 @@ pub listedB : (p : Report) → Sound p → getD (getD (table rowB) (p .quality) 
 unfolding rowB each
 listedB p w = listed rowB p refl w
 
--- no gain exceeds ten tenths
+-- ---- 01's three cases: updates 1 before the pairing; else azimuth-degrade 1; else the table
+
+pub first-gains : (t : Track) (p : Report) → t .updates ≡ updatesAtStart → (gainA t p ≡ tenths) × (gainB t p ≡ tenths)
+unfolding gainA gainB gain
+first-gains t p e = rw e (refl, refl)
+
+pub degraded-gains : (t : Track) (p : Report) → (t .updates ≡ updatesAtStart → ⊥) → p .«azimuth_degrade» ≡ 1 → (gainA t p ≡ degradedA) × (gainB t p ≡ degradedB)
+unfolding gainA gainB gain
+degraded-gains t p n e = rw (ne-eqb (t .updates) updatesAtStart n, e) (refl, refl)
+
+pub table-gains : (t : Track) (p : Report) → (t .updates ≡ updatesAtStart → ⊥) → (p .«azimuth_degrade» ≡ 1 → ⊥) → (gainA t p ≡ getD (rowA (p .quality)) (p .confidence) 0) × (gainB t p ≡ getD (rowB (p .quality)) (p .confidence) 0)
+unfolding gainA gainB gain
+table-gains t p n m = rw (ne-eqb (t .updates) updatesAtStart n, ne-eqb (p .«azimuth_degrade») 1 m) (refl, refl)
+
+-- ---- no gain exceeds ten tenths
+
 gain-most : (t : Track) (p : Report) (degraded entry : ℕ) → degraded ≤ tenths → entry ≤ tenths → gain t p degraded entry ≤ tenths
 unfolding gain
 gain-most t p degraded entry hd he = go (eqb (t .updates) 1) (eqb (p .«azimuth_degrade») 1)

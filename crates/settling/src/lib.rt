@@ -92,7 +92,10 @@ fn new_speed(most: u32, speed: Int, d: Int, b: u32, f: u32) -> Int
     requires { ⌜ (b ≤ tenths) × ((0 < f) × (f ≤ 256)) ⌝ }
     ensures { λ r. ⌜ (r .v ≡ newSpeed most (speed .v) (d .v) b f) × (natAbs (r .v) ≤ most) ⌝ }
 {
-    numbers::held_within(speed.minus(numbers::rounded(weighted(d, b), TENTHS * f)), most)
+    numbers::held_within(
+        speed.minus(numbers::rounded(weighted(d, b), TENTHS * f)),
+        most,
+    )
 }
 
 // How far the prediction is drawn towards the report.

@@ -3,14 +3,10 @@ use mathlib.Core.Path.{refl}
 use borrow.Author.Needs.{needs}
 use Rattle.settling.proofs.aged.Statement.{statement}
 use Rattle.settling.proofs.aged.Tie as tie
-use Rattle.settling.proofs.aged.Reads as reads
-use Rattle.settling.proofs.aged.Lts as lts
 
--- src/lib.rt:231:5
 sub-t : tie.Need-sub-t
 sub-t c = search needs
 
--- src/lib.rt:227:1
 returns : tie.Need-returns
 unfolding agedOf
 returns c = refl

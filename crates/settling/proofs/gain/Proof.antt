@@ -1,22 +1,17 @@
 use borrow.Author.Tests.{ne-eqb}
 use Rattle.settling.specs.Gains.{gain}
-use borrow.Author.Tests.{eq-eqb, ne-eqb}
+use borrow.Author.Tests.{ne-eqb}
 use Rattle.settling.proofs.gain.Statement.{statement}
 use Rattle.settling.proofs.gain.Tie as tie
-use Rattle.settling.proofs.gain.Reads as reads
-use Rattle.settling.proofs.gain.Lts as lts
 
--- src/lib.rt:55:9
 returns : tie.Need-returns
 unfolding gain
 returns c = simp (c .if1 .taken)
 
--- src/lib.rt:58:9
 returns-2 : tie.Need-returns-2
 unfolding gain
 returns-2 c = simp (ne-eqb _ _ (c .before .before .if1 .left), c .if2 .taken)
 
--- src/lib.rt:51:1
 returns-3 : tie.Need-returns-3
 unfolding gain
 returns-3 c = simp (ne-eqb _ _ (c .before .before .if1 .left), ne-eqb _ _ (c .if2 .left))

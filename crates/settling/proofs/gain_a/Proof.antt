@@ -4,39 +4,28 @@ use mathlib.Core.Path.{_≡_, ap, _∙_}
 use borrow.Author.Needs.{needs}
 use Rattle.settling.proofs.gain_a.Statement.{statement}
 use Rattle.settling.proofs.gain_a.Tie as tie
-use Rattle.settling.proofs.gain_a.Reads as reads
-use Rattle.settling.proofs.gain_a.Lts as lts
-use Rattle.settling.proofs.gain.Reads as gain-reads
 
--- src/lib.rt:67:19
 cast-quality : tie.Need-cast-quality
 cast-quality c = search needs
 
--- src/lib.rt:68:22
 cast-confidence : tie.Need-cast-confidence
 cast-confidence c = search needs
 
--- src/lib.rt:69:28
 mul-gain : tie.Need-mul-gain
 mul-gain c = search needs
 
--- src/lib.rt:69:28
 mul-gain-2 : tie.Need-mul-gain-2
 mul-gain-2 c = search needs
 
--- src/lib.rt:69:28
 index-1-gain : tie.Need-index-1-gain
 index-1-gain c = search needs
 
--- src/lib.rt:69:28
 index-2-gain : tie.Need-index-2-gain
 index-2-gain c = search needs
 
--- src/lib.rt:69:5
 gain-requires : tie.Need-gain-requires
 gain-requires c κs = search needs
 
--- src/lib.rt:63:1
 returns : tie.Need-returns
 unfolding gainA rowA
 returns c =

@@ -3,77 +3,49 @@ use Rattle.settling.specs.Settle.{updatedOf, rangeD, azimuthD, updatedRa
 use borrow.Author.Needs.{needs}
 use Rattle.settling.proofs.updated.Statement.{statement}
 use Rattle.settling.proofs.updated.Tie as tie
-use Rattle.settling.proofs.updated.Reads as reads
-use Rattle.settling.proofs.updated.Lts as lts
-use Rattle.numbers.proofs.azimuth_difference.Reads as azimuth-difference-reads
-use Rattle.numbers.proofs.difference.Reads as difference-reads
-use Rattle.settling.proofs.azimuth_ahead.Reads as azimuth-ahead-reads
-use Rattle.settling.proofs.gain_a.Reads as gain-a-reads
-use Rattle.settling.proofs.gain_b.Reads as gain-b-reads
-use Rattle.settling.proofs.new_speed.Reads as new-speed-reads
-use Rattle.settling.proofs.one_more_update.Reads as one-more-update-reads
-use Rattle.settling.proofs.range_ahead.Reads as range-ahead-reads
-use Rattle.settling.proofs.smoothed_azimuth.Reads as smoothed-azimuth-reads
-use Rattle.settling.proofs.smoothed_range.Reads as smoothed-range-reads
-use Rattle.settling.proofs.wait_after.Reads as wait-after-reads
 
--- src/lib.rt:156:9
 gain-a-requires : tie.Need-gain-a-requires
 gain-a-requires c κs = search needs
 
--- src/lib.rt:157:9
 gain-b-requires : tie.Need-gain-b-requires
 gain-b-requires c κs = search needs
 
--- src/lib.rt:158:14
 cast-f : tie.Need-cast-f
 cast-f c = search needs
 
--- src/lib.rt:158:13
 add-f : tie.Need-add-f
 add-f c = search needs
 
--- src/lib.rt:159:9
 difference-requires : tie.Need-difference-requires
 difference-requires c κs = search needs
 
--- src/lib.rt:160:9
 azimuth-difference-requires : tie.Need-azimuth-difference-requires
 azimuth-difference-requires c κs = search needs
 
--- src/lib.rt:163:9
 new-speed-requires : tie.Need-new-speed-requires
 new-speed-requires c κs = search needs
 
--- src/lib.rt:164:9
 new-speed-requires-2 : tie.Need-new-speed-requires-2
 new-speed-requires-2 c κs = search needs
 
--- src/lib.rt:165:33
 smoothed-azimuth-requires : tie.Need-smoothed-azimuth-requires
 smoothed-azimuth-requires c κs = search needs
 
--- src/lib.rt:165:9
 azimuth-ahead-requires : tie.Need-azimuth-ahead-requires
 azimuth-ahead-requires c κs = search needs
 
--- src/lib.rt:167:28
 smoothed-range-requires : tie.Need-smoothed-range-requires
 smoothed-range-requires c κs = search needs
 
--- src/lib.rt:167:16
 range-ahead-requires : tie.Need-range-ahead-requires
 range-ahead-requires c κs = search needs
 
--- src/lib.rt:171:18
 one-more-update-requires : tie.Need-one-more-update-requires
 one-more-update-requires c κs = search needs
 
--- src/lib.rt:175:15
 wait-after-requires : tie.Need-wait-after-requires
 wait-after-requires c κs = c .before .before .before .before .before .before .before .before .before .before .before .before .before .before .pre .1 .1
 
--- src/lib.rt:150:1
 returns : tie.Need-returns
 unfolding updatedOf updatedRange updatedAzimuth updatedRangeSpeed updatedAzimuthSpeed rangeD azimuthD
 returns c =
