@@ -78,7 +78,7 @@ fn gain_b(t: Track, p: Report) -> u32
     gain(t, p, DEGRADED_B, GAINS_B[quality][confidence])
 }
 
-// d times a gain: bounded once for both uses.
+// d times a gain, and how large that gets.
 fn weighted(d: Int, gain: u32) -> Int
     requires { ⌜ (natAbs (d .v) ≤ rangeMost) × (gain ≤ tenths) ⌝ }
     ensures { λ r. ⌜ (r .v ≡ d .v *ℤ pos gain) × (natAbs (r .v) ≤ rangeMost * tenths) ⌝ }
@@ -139,7 +139,7 @@ fn azimuth_ahead(azimuth: u16, speed: Int) -> u16
     numbers::azimuth_moved(azimuth, speed)
 }
 
-// The wait stored by the call that serves sector s: that call counts as the first.
+// The wait that the call for sector s stores: how many calls come between it and the one that is j ahead.
 fn wait_after(s: u8, azimuth: u16) -> u8
     requires { ⌜ s < sectors ⌝ }
     ensures { λ r. ⌜ r ≡ waitAfter s azimuth ⌝ }
