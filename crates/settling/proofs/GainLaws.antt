@@ -1,8 +1,8 @@
 -- Laws of the gains: a rule of a table is one test over its entries. Assumes nothing.
 use Prim.Native.Nat.{ℕ, _≤_}
-use mathlib.Core.Path.{_≡_, refl}
+use mathlib.Core.Path.{_≡_, refl, _∙_}
 use mathlib.Core.Bool.{Bool, true, false, cond}
-use mathlib.Core.List.{List, [], _∷_}
+use mathlib.Core.List.{List, []}
 use native.Mathlib.Omega.{arith}
 use borrow.Author.Tests.{eqb-true, leb-true, ne-eqb}
 use lib.Dec.{leb, eqb}
@@ -12,29 +12,20 @@ use Rattle.laws.proofs.Tests.{each-at}
 use Rattle.records.specs.Fields.{confidenceMost, qualityMost, Sound}
 use Rattle.records.specs.declared.Track.{Track}
 use Rattle.records.specs.declared.Report.{Report}
-use Rattle.settling.specs.Gains.{tenths, degradedA, degradedB, updatesAtStart, rowA, rowB, gain, gainA, gainB}
+use Rattle.settling.specs.Gains.{tenths, degradedA, degradedB, updatesAtStart, rowA, rowB, listedAt, gain, gainA, gainB}
 
 -- what a test over all qualities and confidences says of one
 everywhere : (f : ℕ → ℕ → Bool) (q k : ℕ) → each 4 (λ q. each 8 (f q)) ≡ true → q ≤ qualityMost → k ≤ confidenceMost → f q k ≡ true
 everywhere f q k e hq hk = each-at (f q) 8 k (each-at (λ q. each 8 (f q)) 4 q e (omega arith)) (omega arith)
 
--- the rows as the code keeps them: at quality q and confidence k stands what row q has there
-abbrev pub table : (ℕ → List ℕ) → List (List ℕ)
-table row = row 0 ∷ row 1 ∷ row 2 ∷ row 3 ∷ []
+-- what a table lists is what the rows say, where one test over the whole table has found no difference
+unfoldable pub agrees : List (List ℕ) → (ℕ → List ℕ) → Bool
+agrees table row = each 4 (λ q. each 8 (λ k. eqb (getD (getD table q []) k 0) (getD (row q) k 0)))
 
-abbrev lists : (ℕ → List ℕ) → ℕ → ℕ → Bool
-lists row q k = eqb (getD (getD (table row) q []) k 0) (getD (row q) k 0)
-
-listed : (row : ℕ → List ℕ) (p : Report) → each 4 (λ q. each 8 (lists row q)) ≡ true → Sound p → getD (getD (table row) (p .quality) []) (p .confidence) 0 ≡ getD (row (p .quality)) (p .confidence) 0
-listed row p e w = eqb-true _ _ (everywhere (lists row) (p .quality) (p .confidence) e (w .quality-in) (w .confidence-in))
-
-pub listedA : (p : Report) → Sound p → getD (getD (table rowA) (p .quality) []) (p .confidence) 0 ≡ getD (rowA (p .quality)) (p .confidence) 0
-unfolding rowA each
-listedA p w = listed rowA p refl w
-
-pub listedB : (p : Report) → Sound p → getD (getD (table rowB) (p .quality) []) (p .confidence) 0 ≡ getD (rowB (p .quality)) (p .confidence) 0
-unfolding rowB each
-listedB p w = listed rowB p refl w
+pub as-listed : (table : List (List ℕ)) (row : ℕ → List ℕ) (p : Report) (x : ℕ) → x ≡ listedAt table (p .quality) (p .confidence) → agrees table row ≡ true → Sound p → x ≡ getD (row (p .quality)) (p .confidence) 0
+unfolding agrees listedAt
+as-listed table row p x h e w =
+    h ∙ eqb-true _ _ (everywhere (λ q k. eqb (getD (getD table q []) k 0) (getD (row q) k 0)) (p .quality) (p .confidence) e (w .quality-in) (w .confidence-in))
 
 -- ---- 01's three cases: updates 1 before the pairing; else azimuth-degrade 1; else the table
 

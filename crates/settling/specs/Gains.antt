@@ -23,6 +23,10 @@ rowB zero = 3 ∷ 3 ∷ 3 ∷ 3 ∷ 3 ∷ 3 ∷ 3 ∷ 10 ∷ []
 rowB (suc zero) = 3 ∷ 3 ∷ 3 ∷ 7 ∷ 6 ∷ 7 ∷ 7 ∷ 10 ∷ []
 rowB (suc (suc q)) = 3 ∷ 3 ∷ 3 ∷ 9 ∷ 6 ∷ 9 ∷ 9 ∷ 10 ∷ []
 
+-- what a table of such rows has at a quality and a confidence
+unfoldable pub listedAt : List (List ℕ) → (quality confidence : ℕ) → ℕ
+listedAt table quality confidence = getD (getD table quality []) confidence 0
+
 -- azimuth-degrade 1 gives 6 and 3
 abbrev pub degradedA : ℕ
 degradedA = 6

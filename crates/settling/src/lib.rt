@@ -4,7 +4,7 @@ ghost use Prim.Native.Nat.{_+_, _*_, _≤_, _<_, min};
 ghost use lib.IntN.{pos, natAbs, _*ℤ_};
 ghost use Rattle.numbers.specs.Scales.{rangeMost, halfTurn, sectors, rangeSpeedMost, azimuthSpeedMost};
 ghost use Rattle.records.specs.Fields.{Sound};
-ghost use Rattle.settling.specs.Gains.{tenths, gain as Gains·gain, gainA, gainB};
+ghost use Rattle.settling.specs.Gains.{tenths, listedAt, gain as Gains·gain, gainA, gainB};
 ghost use Rattle.settling.specs.Settle.{Settleable, newSpeed, correction as Settle·correction};
 ghost use Rattle.settling.specs.Settle.{smoothedRange, smoothedAzimuth, rangeAhead, azimuthAhead, waitAfter};
 ghost use Rattle.settling.specs.Settle.{updatesMost, updatedOf, coastedOf, startedOf, agedOf};
@@ -47,6 +47,16 @@ pub enum Unpaired {
     Dropped,
 }
 
+// What a table lists for a report.
+fn listed(table: [[u32; CONFIDENCES]; QUALITIES], p: Report) -> u32
+    requires { ⌜ Sound p ⌝ }
+    ensures { λ r. ⌜ r ≡ listedAt table (p .quality) (p .confidence) ⌝ }
+{
+    let quality = p.quality as usize;
+    let confidence = p.confidence as usize;
+    table[quality][confidence]
+}
+
 // A gain: whole for a track of one update, else by the report's azimuth-degrade, else as listed.
 fn gain(t: Track, p: Report, degraded: u32, listed: u32) -> u32
     ensures { λ r. ⌜ r ≡ Gains·gain t p degraded listed ⌝ }
@@ -64,18 +74,14 @@ fn gain_a(t: Track, p: Report) -> u32
     requires { ⌜ Sound p ⌝ }
     ensures { λ r. ⌜ (r ≡ gainA t p) × (r ≤ tenths) ⌝ }
 {
-    let quality = p.quality as usize;
-    let confidence = p.confidence as usize;
-    gain(t, p, DEGRADED_A, GAINS_A[quality][confidence])
+    gain(t, p, DEGRADED_A, listed(GAINS_A, p))
 }
 
 fn gain_b(t: Track, p: Report) -> u32
     requires { ⌜ Sound p ⌝ }
     ensures { λ r. ⌜ (r ≡ gainB t p) × (r ≤ tenths) ⌝ }
 {
-    let quality = p.quality as usize;
-    let confidence = p.confidence as usize;
-    gain(t, p, DEGRADED_B, GAINS_B[quality][confidence])
+    gain(t, p, DEGRADED_B, listed(GAINS_B, p))
 }
 
 // d times a gain, and how large that gets.
