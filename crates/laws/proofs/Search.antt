@@ -1,13 +1,13 @@
 -- A loop that looks for the first place of a kind, or lists all its places. Assumes nothing.
 use Prim.Native.Nat.{ℕ, zero, suc, _+_, _≤_, _<_}
 use mathlib.Core.Path.{_≡_, refl, sym, _∙_}
-use mathlib.Core.List.{List, [], _∷_}
+use mathlib.Core.List.{List, [], _∷_, _++_, append-assoc, append-nil}
 use mathlib.Core.Bool.{Bool, true, false, cond}
 use native.Mathlib.Omega.{arith}
 use native.Mathlib.Nat.{zero-add, le-of-suc-le-suc, not-suc-le-zero}
 use native.Mathlib.Numerals.{add-one}
-use lib.ListN.{length, getD, drop, drop-of-length-le}
-use lib.Seq.{drop-cons}
+use lib.ListN.{length, getD, take, drop, set, length-set, length-append, drop-of-length-le}
+use lib.Seq.{drop-cons, length-take-le, take-suc-set, take-set-le}
 use Rattle.laws.specs.Lists.{firstIndex, indicesFrom}
 
 -- the first i elements are passed, none of the kind
@@ -92,3 +92,72 @@ module _ {A : Type 0} (p : A → Bool) where
   pub indices-out : (xs : List A) (i : ℕ) → length xs ≤ i → indicesFrom p i (drop i xs) ≡ []
   unfolding indicesFrom
   indices-out xs i h = rw (drop-of-length-le xs h)
+
+-- places of the kind gathered into a list: the first n are found, and i are looked at
+pub record Gathered {A : Type 0} (p : A → Bool) (xs : List A) (out : List ℕ) (n i : ℕ) : Type 0 where
+  pub upto : i ≤ length xs
+  pub room : n ≤ length out
+  pub found : take n out ++ indicesFrom p i (drop i xs) ≡ indicesFrom p 0 xs
+
+module _ {A : Type 0} (p : A → Bool) where
+  pub gathered-none : (xs : List A) (out : List ℕ) → Gathered p xs out 0 0
+  gathered-none xs out = record { upto = omega arith; room = omega arith; found = refl }
+
+  gathered-count : {xs : List A} {out : List ℕ} {n i : ℕ} → Gathered p xs out n i → n + length (indicesFrom p i (drop i xs)) ≡ length (indicesFrom p 0 xs)
+  gathered-count {xs} {out} {n} {i} g = rw (← g .found, length-append, length-take-le n out (g .room))
+
+  -- there is room for one more
+  pub gathered-room : {xs : List A} {out : List ℕ} {n i : ℕ} → Gathered p xs out n i → length (indicesFrom p 0 xs) < length out → n < length out
+  gathered-room {xs} {out} {n} {i} g h = omega (arith, gathered-count g)
+
+  -- element i is looked at: its place is written at n, and counts where it is of the kind
+  pub gathered-more : {xs : List A} {out : List ℕ} {n i k : ℕ} (d : A) → Gathered p xs out n i → i < length xs → n < length out → k ≡ cond (p (getD xs i d)) 1 0 → Gathered p xs (set out n i) (n + k) (i + 1)
+  gathered-more {xs} {out} {n} {i} {k} d g h l e = go (p (getD xs i d)) refl
+    where
+      go : (b : Bool) → p (getD xs i d) ≡ b → Gathered p xs (set out n i) (n + k) (i + 1)
+      go true t =
+          let one : k ≡ 1 = rw t at e in
+          record {
+            upto = omega arith;
+            room = rw (length-set out n i) (omega arith);
+            found = rw (one, add-one n, take-suc-set out n i l, append-assoc (take n out) (i ∷ []) (indicesFrom p (i + 1) (drop (i + 1) xs)))
+                (rw (indices-hit p xs i d h t) at (g .found));
+          }
+      go false f =
+          let none : k ≡ 0 = rw f at e in
+          let same : n + k ≡ n = omega arith in
+          record {
+            upto = omega arith;
+            room = rw (length-set out n i) (omega arith);
+            found = rw (same, take-set-le n out n i (omega arith)) (rw (indices-skip p xs i d h f) at (g .found));
+          }
+
+  pub gathered-end : {xs : List A} {out : List ℕ} {n i : ℕ} → Gathered p xs out n i → length xs ≤ i → (n ≡ length (indicesFrom p 0 xs)) × (take n out ≡ indicesFrom p 0 xs)
+  gathered-end {xs} {out} {n} {i} g h =
+      let all : take n out ++ [] ≡ indicesFrom p 0 xs = rw (indices-out p xs i h) at (g .found) in
+      let e : take n out ≡ indicesFrom p 0 xs = sym (append-nil (take n out)) ∙ all in
+      (rw (← e) (sym (length-take-le n out (g .room))), e)
+
+-- places of the kind counted: n are found, and i are looked at
+pub record Counted {A : Type 0} (p : A → Bool) (xs : List A) (n i : ℕ) : Type 0 where
+  pub upto : i ≤ length xs
+  pub few : n ≤ i
+  pub ahead : n + length (indicesFrom p i (drop i xs)) ≡ length (indicesFrom p 0 xs)
+
+module _ {A : Type 0} (p : A → Bool) where
+  pub counted-none : (xs : List A) → Counted p xs 0 0
+  counted-none xs = record { upto = omega arith; few = omega arith; ahead = zero-add _ }
+
+  pub counted-more : {xs : List A} {n i k : ℕ} (d : A) → Counted p xs n i → i < length xs → k ≡ cond (p (getD xs i d)) 1 0 → Counted p xs (n + k) (i + 1)
+  counted-more {xs} {n} {i} {k} d w h e = go (p (getD xs i d)) refl
+    where
+      go : (b : Bool) → p (getD xs i d) ≡ b → Counted p xs (n + k) (i + 1)
+      go true t =
+          let one : k ≡ 1 = rw t at e in
+          record { upto = omega arith; few = omega (arith, w .few); ahead = omega (arith, rw (indices-hit p xs i d h t) at (w .ahead)) }
+      go false f =
+          let none : k ≡ 0 = rw f at e in
+          record { upto = omega arith; few = omega (arith, w .few); ahead = omega (arith, rw (indices-skip p xs i d h f) at (w .ahead)) }
+
+  pub counted-end : {xs : List A} {n i : ℕ} → Counted p xs n i → length xs ≤ i → n ≡ length (indicesFrom p 0 xs)
+  counted-end {xs} {n} {i} w h = omega (arith, rw (indices-out p xs i h) at (w .ahead))

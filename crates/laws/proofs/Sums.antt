@@ -1,13 +1,15 @@
 -- Laws of `Sum`. Assumes nothing.
 use Prim.Native.Nat.{ℕ, zero, suc, _+_, _*_, _≤_, _<_, zero-le}
 use mathlib.Core.Path.{_≡_, refl, sym, _∙_}
-use mathlib.Core.Bool.{Bool, true, false, cond}
+use mathlib.Core.Bool.{Bool, true, false, cond, _&&_, and-true, and-false}
+use mathlib.Core.Logic.{⊎-elim}
 use native.Mathlib.Omega.{arith}
-use native.Mathlib.Nat.{le-refl, lt-suc-self, le-step, le-antisymm, le-of-eq, add-le-add, suc-mul, ne-of-lt, le-add-right, le-trans, mul-le-mul-right}
+use native.Mathlib.Nat.{add-zero, le-refl, lt-suc-self, le-step, le-antisymm, le-of-eq, add-le-add, suc-mul, ne-of-lt, le-add-right, le-trans, mul-le-mul-right, eq-or-lt-of-le, le-of-suc-le-suc, not-suc-le-zero}
 use native.Mathlib.Numerals.{add-one}
 use lib.Dec.{eqb, ltb}
 use borrow.Author.Tests.{eqb-true, eqb-false, ltb-true, ltb-false, lt-ltb, le-ltb, ne-eqb}
 use Rattle.laws.specs.Sums.{Sum}
+use Rattle.laws.specs.Tests.{each}
 
 -- a loop that sums: it begins, a turn, it is done
 pub sum-none : (f : ℕ → ℕ) → 0 ≡ Sum 0 f
@@ -28,6 +30,17 @@ sum-le (suc n) f g h =
     let a : Sum n f ≤ Sum n g = sum-le n f g (λ i l. h i (le-step l)) in
     let b : f n ≤ g n = h n (lt-suc-self n) in
     omega arith
+
+-- one of them less: the sum is less
+pub sum-less : (n k : ℕ) (f g : ℕ → ℕ) → k < n → f k < g k → ((i : ℕ) → i < n → f i ≤ g i) → Sum n f < Sum n g
+unfolding Sum
+sum-less zero k f g l h a = absurd (not-suc-le-zero l)
+sum-less (suc n) k f g l h a =
+    let b : f n ≤ g n = a n (lt-suc-self n) in
+    ⊎-elim
+    (λ e. let c : f n < g n = rw e at h in omega (arith, sum-le n f g (λ i m. a i (le-step m))))
+    (λ m. omega (arith, sum-less n k f g m h (λ i j. a i (le-step j))))
+    (eq-or-lt-of-le (le-of-suc-le-suc l))
 
 pub sum-add : (n : ℕ) (f g : ℕ → ℕ) → Sum n (λ i. f i + g i) ≡ Sum n f + Sum n g
 unfolding Sum
@@ -96,3 +109,24 @@ sum-injective n (suc m) P v h =
 -- row i of n rows of m lies within
 pub row-in : (i n m l : ℕ) → i < n → n * m ≤ l → i * m + m ≤ l
 row-in i n m l h k = le-trans (rw suc-mul at (mul-le-mul-right m h)) k
+
+-- ---- a loop that counts the numbers that a test fails of
+
+pub bit-small : (b : Bool) → cond b 0 1 ≤ 1
+bit-small true = zero-le
+bit-small false = le-refl 1
+
+pub count-upto : (n : ℕ) (f : ℕ → Bool) → Sum n (λ i. cond (f i) 0 1) ≤ n
+unfolding Sum
+count-upto zero f = zero-le
+count-upto (suc n) f = omega (arith, count-upto n f, bit-small (f n))
+
+-- there are none just where each holds
+pub count-each : (n : ℕ) (f : ℕ → Bool) → each n f ≡ eqb (Sum n (λ i. cond (f i) 0 1)) 0
+unfolding Sum each
+count-each zero f = refl
+count-each (suc n) f = go (f n) (count-each n f)
+  where
+    go : (b : Bool) → each n f ≡ eqb (Sum n (λ i. cond (f i) 0 1)) 0 → (each n f && b) ≡ eqb (Sum n (λ i. cond (f i) 0 1) + cond b 0 1) 0
+    go true h = rw (and-true (each n f), add-zero (Sum n (λ i. cond (f i) 0 1))) h
+    go false h = rw (and-false (each n f), ne-eqb (Sum n (λ i. cond (f i) 0 1) + 1) 0 (λ e. omega arith))

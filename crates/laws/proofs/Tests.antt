@@ -1,15 +1,16 @@
 -- Laws of `each`, a test of every number below n, and of `holds`, a list of tests. Assumes nothing.
 use Prim.Native.Nat.{ℕ, zero, suc, _+_, _≤_, _<_}
-use mathlib.Core.Path.{_≡_, refl}
-use mathlib.Core.Bool.{Bool, true, false, not, _&&_, _||_}
+use mathlib.Core.Path.{_≡_, refl, sym, _∙_}
+use mathlib.Core.Bool.{Bool, true, false, not, _&&_, _||_, cond}
 use mathlib.Core.List.{List, [], _∷_}
-use mathlib.Core.Logic.{⊎-elim}
+use mathlib.Core.Logic.{_⊎_, inl, inr, ⊎-elim}
 use native.Mathlib.Nat.{suc-inj, lt-suc-self, le-step, le-antisymm, eq-or-lt-of-le, le-of-suc-le-suc, not-suc-le-zero}
 use native.Mathlib.Numerals.{add-one}
 use native.Mathlib.Omega.{arith}
+use lib.Dec.{T, ltb, ltb→lt}
 use lib.ListN.{getD, length}
 use Rattle.laws.specs.Lists.{firstIndex}
-use Rattle.laws.specs.Tests.{each, holds}
+use Rattle.laws.specs.Tests.{each, holds, refuse}
 
 -- ---- tests joined by and, or
 
@@ -28,6 +29,11 @@ pub and-fails : (a b : Bool) → b ≡ false → (a && b) ≡ false
 and-fails true b e = e
 and-fails false b e = refl
 
+-- the firsts agree, and where they hold the seconds
+pub and-same : (a a′ b b′ : Bool) → a ≡ a′ → (a ≡ true → b ≡ b′) → (a && b) ≡ (a′ && b′)
+and-same true a′ b b′ e h = rw (← e) (h refl)
+and-same false a′ b b′ e h = rw (← e)
+
 pub or-left : (a b : Bool) → a ≡ true → (a || b) ≡ true
 or-left true b e = refl
 or-left false b e = cc
@@ -35,6 +41,15 @@ or-left false b e = cc
 pub or-right : (a b : Bool) → b ≡ true → (a || b) ≡ true
 or-right true b e = refl
 or-right false b e = e
+
+-- a, or where a fails b
+pub or-else : (a b : Bool) → (a ≡ false → b ≡ true) → (a || b) ≡ true
+or-else true b h = refl
+or-else false b h = h refl
+
+pub or-second : (a b : Bool) → (a || b) ≡ true → a ≡ false → b ≡ true
+or-second true b e f = cc
+or-second false b e f = e
 
 -- a test is not both
 pub clash : {b : Bool} → b ≡ true → b ≡ false → ⊥
@@ -75,6 +90,23 @@ unfolding each
 each-all f zero h = refl
 each-all f (suc n) h = and-both (each-all f n (λ i l. h i (le-step l))) (h n (lt-suc-self n))
 
+-- each holds, or one fails
+pub each-or-one : (f : ℕ → Bool) (n : ℕ) → (each n f ≡ true) ⊎ ((i : ℕ) × ((i < n) × (f i ≡ false)))
+unfolding each
+each-or-one f zero = inl refl
+each-or-one f (suc n) = go (f n) refl (each-or-one f n)
+  where
+    go : (b : Bool) → f n ≡ b → (each n f ≡ true) ⊎ ((i : ℕ) × ((i < n) × (f i ≡ false))) → ((each n f && b) ≡ true) ⊎ ((i : ℕ) × ((i < suc n) × (f i ≡ false)))
+    go b e (inr (i, (l, h))) = inr (i, (le-step l, h))
+    go true e (inl a) = inl (and-both a refl)
+    go false e (inl a) = inr (n, (lt-suc-self n, e))
+
+-- tests that agree below n
+pub each-same : (f g : ℕ → Bool) (n : ℕ) → ((i : ℕ) → i < n → f i ≡ g i) → each n f ≡ each n g
+unfolding each
+each-same f g zero h = refl
+each-same f g (suc n) h = rw (each-same f g n (λ i l. h i (le-step l)), h n (lt-suc-self n))
+
 -- ---- a list of tests
 
 -- the tests as facts
@@ -109,3 +141,14 @@ pub all-pass : (bs : List Bool) → Each bs → firstIndex not bs ≡ length bs
 unfolding firstIndex
 all-pass [] w = refl
 all-pass (b ∷ bs) w = rw (w .0, all-pass bs (w .1))
+
+-- ---- a chain of refusals: no number comes of it just where each test holds
+
+pub refuse-none : (k : ℕ) (ok : Bool) (rest : ℕ) → refuse k ok rest ≡ 0 → T (ltb 0 k) → (ok ≡ true) × (rest ≡ 0)
+refuse-none k true rest e h = (refl, e)
+refuse-none k false rest e h = absurd (omega (arith, ltb→lt 0 k h))
+
+-- two chains agree where their tests do, and the rest wherever the test holds
+pub refuse-same : (k : ℕ) (ok ok′ : Bool) (rest rest′ : ℕ) → ok ≡ ok′ → (ok ≡ true → rest ≡ rest′) → refuse k ok rest ≡ refuse k ok′ rest′
+refuse-same k true ok′ rest rest′ e h = rw (← e) (h refl)
+refuse-same k false ok′ rest rest′ e h = rw (← e)

@@ -1,6 +1,6 @@
 -- What a loop over a list computes: the first place of a kind, all its places, a state that each element changes, an answer a step.
 -- Assumes nothing.
-use Prim.Native.Nat.{ℕ, suc}
+use Prim.Native.Nat.{ℕ, zero, suc}
 use mathlib.Core.List.{List, [], _∷_}
 use mathlib.Core.Bool.{Bool, cond}
 
@@ -26,3 +26,9 @@ module _ {B S C : Type 0} (step : B → S → S) (out : B → S → C) where
   unfoldable pub outs : List B → S → List C
   outs [] s = []
   outs (b ∷ bs) s = out b s ∷ outs bs (step b s)
+
+-- f 0, f 1, .., f (n - 1)
+module _ {A : Type 0} where
+  abbrev pub listed : ℕ → (ℕ → A) → List A
+  listed zero f = []
+  listed (suc n) f = f 0 ∷ listed n (λ k. f (suc k))

@@ -1,6 +1,6 @@
 -- Tests of every number below n, and of every item of a list. Assumes nothing.
 use Prim.Native.Nat.{ℕ, zero, suc}
-use mathlib.Core.Bool.{Bool, true, _&&_}
+use mathlib.Core.Bool.{Bool, true, _&&_, cond}
 use mathlib.Core.List.{List, [], _∷_}
 
 -- f holds of each number below n
@@ -12,3 +12,7 @@ each (suc n) f = each n f && f n
 unfoldable pub holds : List Bool → Bool
 holds [] = true
 holds (b ∷ bs) = b && holds bs
+
+-- one line of a chain of refusals: the number k where the test fails, else what the rest of the chain gives
+abbrev pub refuse : ℕ → Bool → ℕ → ℕ
+refuse k ok rest = cond ok rest k

@@ -130,7 +130,7 @@ pub fn rounded(z: Int, d: u32) -> Int
 }
 
 // The lesser of two sizes.
-fn lesser(a: u64, b: u64) -> u64
+pub fn lesser(a: u64, b: u64) -> u64
     ensures { λ r. ⌜ r ≡ min a b ⌝ }
 {
     if a < b { a } else { b }
@@ -161,7 +161,8 @@ pub fn remainder(z: Int, m: u32) -> u32
     ensures { λ r. ⌜ (r ≡ Whole·remainder (z .v) m) × (r < m) ⌝ }
 {
     let divisor = m as u64;
-    if z.negative() {
+    let closing = z.negative();
+    if closing {
         (divisor - 1 - (z.magnitude() - 1) % divisor) as u32
     } else {
         (z.magnitude() % divisor) as u32

@@ -1,0 +1,2 @@
+-- What a call is handed: refused by number, or its due tracks listed.
+pub mod Refusals

@@ -1,0 +1,8 @@
+-- What the referee's word is worth (Theorems), and what leads there.
+pub mod Theorems
+pub mod Examples
+pub mod Duality
+pub mod Same
+pub mod Unused
+pub mod Facts
+pub mod Beyond

@@ -1,0 +1,73 @@
+-- A pairing is what it says of the tracks that are there; so lists of report numbers do for functions. Assumes nothing.
+use Prim.Native.Nat.{ℕ, zero, suc, _≤_}
+use mathlib.Core.Path.{_≡_, refl, ap, sym, _∙_}
+use mathlib.Core.Bool.{cond}
+use mathlib.Core.List.{List, [], _∷_}
+use native.Mathlib.Nat.{le-of-eq, le-of-suc-le-suc, not-suc-le-zero}
+use lib.Dec.{eqb}
+use lib.ListN.{length}
+use Rattle.laws.proofs.Sums.{sum-same}
+use Rattle.matching.specs.Pairing.{none, Sheet, ValidPairing, pairs, scoreSum, Best, at, Alike, BestList}
+
+module _ (S : Sheet) (P Q : ℕ → ℕ) (a : Alike (S .tracks) P Q) where
+  pub valid-same : ValidPairing S P → ValidPairing S Q
+  valid-same p =
+      record {
+        there = λ i l d. rw (a i l) at (p .there i l (λ z. d (sym (a i l) ∙ z)));
+        admissible = λ i l d. rw (a i l) at (p .admissible i l (λ z. d (sym (a i l) ∙ z)));
+        once = λ i k li lk d q. p .once i k li lk (λ z. d (sym (a i li) ∙ z)) (a i li ∙ q ∙ sym (a k lk));
+      }
+
+  pub pairs-same : pairs S P ≡ pairs S Q
+  unfolding pairs
+  pairs-same = sum-same (S .tracks) _ _ (λ i l. ap (λ x. cond (eqb x none) 0 1) (a i l))
+
+  pub scores-same : scoreSum S P ≡ scoreSum S Q
+  unfolding scoreSum
+  scores-same = sum-same (S .tracks) _ _ (λ i l. ap (λ x. cond (eqb x none) 0 (S .cell i x)) (a i l))
+
+  pub best-same : Best S P → Best S Q
+  best-same b =
+      record {
+        valid = valid-same (b .valid);
+        most = λ R r l. b .most R r (rw pairs-same l);
+        least = λ R r e l. b .least R r (e ∙ sym pairs-same) (rw scores-same l);
+      }
+
+-- P 0, P 1, .. as a list
+unfoldable listOf : ℕ → (ℕ → ℕ) → List ℕ
+listOf zero P = []
+listOf (suc n) P = P 0 ∷ listOf n (λ i. P (suc i))
+
+list-long : (n : ℕ) (P : ℕ → ℕ) → length (listOf n P) ≡ n
+unfolding listOf
+list-long zero P = refl
+list-long (suc n) P = ap suc (list-long n (λ i. P (suc i)))
+
+list-at : (n : ℕ) (P : ℕ → ℕ) → Alike n P (at (listOf n P))
+unfolding listOf
+list-at zero P i l = absurd (not-suc-le-zero l)
+list-at (suc n) P zero l = refl
+list-at (suc n) P (suc i) l = list-at n (λ k. P (suc k)) i (le-of-suc-le-suc l)
+
+module _ (S : Sheet) (p : List ℕ) where
+  pub list-best : BestList S p → Best S (at p)
+  list-best b =
+      record {
+        valid = b .valid;
+        most = λ Q q l. b .most (list Q) (long Q) (as-list Q q) (rw (pairs-same S Q (at (list Q)) (list-at _ Q)) at l);
+        least = λ Q q e l.
+            b .least (list Q) (long Q) (as-list Q q) (sym (pairs-same S Q (at (list Q)) (list-at _ Q)) ∙ e) (rw (scores-same S Q (at (list Q)) (list-at _ Q)) at l);
+      }
+    where
+      list : (ℕ → ℕ) → List ℕ
+      list Q = listOf (S .tracks) Q
+
+      long : (Q : ℕ → ℕ) → S .tracks ≤ length (list Q)
+      long Q = le-of-eq (sym (list-long (S .tracks) Q))
+
+      as-list : (Q : ℕ → ℕ) → ValidPairing S Q → ValidPairing S (at (list Q))
+      as-list Q = valid-same S Q (at (list Q)) (list-at _ Q)
+
+  pub best-list : S .tracks ≤ length p → Best S (at p) → BestList S p
+  best-list l b = record { long = l; valid = b .valid; most = λ q lq. b .most (at q); least = λ q lq. b .least (at q) }

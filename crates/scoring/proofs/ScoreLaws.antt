@@ -1,0 +1,82 @@
+-- Laws of the zone, of each digit, and of the score. Assumes nothing.
+use Prim.Native.Nat.{ℕ, _+_, _*_, _≤_, _<_}
+use mathlib.Core.Path.{_≡_, refl}
+use mathlib.Core.Bool.{Bool, true, false, cond}
+use native.Mathlib.Omega.{arith}
+use lib.Dec.{ltb, eqb}
+use Rattle.records.specs.declared.Track.{Track}
+use Rattle.records.specs.declared.Report.{Report}
+use Rattle.records.specs.declared.Site.{Site}
+use Rattle.records.specs.Fields.{growingFrom, matureFrom, sureConfidence, sureQuality}
+use Rattle.scoring.specs.declared.Scored.the-variants.{NotAdmissible, Score}
+use Rattle.scoring.specs.Zone.{rangeOff, azimuthOff, withinSigmas, innerSigmas, withinOuter, zoneOf}
+use Rattle.scoring.specs.Score.{pairPosition, oneUnless, dopplerAgrees, dopplerOf, updatesAge, ageOf, confidenceTrust, qualityTrust, trustOf}
+use Rattle.scoring.specs.Score.{scoreEnd, worthOf, scoreOf}
+use Rattle.scoring.proofs.PositionLaws.{position-most}
+
+-- a pair in the inner zone is inner, even where a track of one update does not reach so far
+pub inner-first : (t : Track) (p : Report) (g : Site) → withinSigmas innerSigmas t p g ≡ true → zoneOf t p g ≡ 3
+unfolding zoneOf
+inner-first t p g e = rw e
+
+-- ---- how large each digit is
+
+pub zone-most : (t : Track) (p : Report) (g : Site) → zoneOf t p g ≤ 6
+unfolding zoneOf
+zone-most t p g = go (withinSigmas innerSigmas t p g) (withinOuter t p g)
+  where
+    go : (a b : Bool) → cond a 3 (cond b 6 0) ≤ 6
+    go true b = omega arith
+    go false true = omega arith
+    go false false = omega arith
+
+pub one-unless-most : (b : Bool) → oneUnless b ≤ 1
+one-unless-most true = omega arith
+one-unless-most false = omega arith
+
+pub updates-age-most : (updates : ℕ) → updatesAge updates ≤ 4
+unfolding updatesAge
+updates-age-most updates = go (ltb updates growingFrom) (ltb updates matureFrom)
+  where
+    go : (a b : Bool) → cond a 4 (cond b 2 0) ≤ 4
+    go true b = omega arith
+    go false true = omega arith
+    go false false = omega arith
+
+-- two where the report's confidence is low, one more where the track's is
+pub confidence-form : (t : Track) (p : Report) → 2 * oneUnless (sureConfidence (p .confidence)) + oneUnless (sureConfidence (t .confidence)) ≡ confidenceTrust t p
+unfolding confidenceTrust
+confidence-form t p = go (sureConfidence (p .confidence)) (sureConfidence (t .confidence))
+  where
+    go : (a b : Bool) → 2 * oneUnless a + oneUnless b ≡ cond a (cond b 0 1) (cond b 2 3)
+    go true true = refl
+    go true false = refl
+    go false true = refl
+    go false false = refl
+
+pub confidence-most : (t : Track) (p : Report) → confidenceTrust t p ≤ 3
+confidence-most t p =
+    omega (arith, confidence-form t p, one-unless-most (sureConfidence (p .confidence)), one-unless-most (sureConfidence (t .confidence)))
+
+pub quality-most : (t : Track) (p : Report) → qualityTrust t p ≤ 2
+unfolding qualityTrust
+quality-most t p = omega (arith, one-unless-most (sureQuality (p .quality)), one-unless-most (sureQuality (t .quality)))
+
+-- ---- the score
+
+pub worth-below : (t : Track) (p : Report) (g : Site) → worthOf t p g < scoreEnd
+unfolding worthOf pairPosition dopplerOf ageOf trustOf
+worth-below t p g =
+    omega (arith, zone-most t p g, position-most (rangeOff t p) (azimuthOff t p) (g .«range_sigma») (g .«azimuth_sigma»), one-unless-most (dopplerAgrees t p), updates-age-most (t .updates), one-unless-most (eqb (t .misses) 0), confidence-most t p, quality-most t p)
+
+-- every score is below 2,097,152
+pub score-below : (t : Track) (p : Report) (g : Site) (x : ℕ) → scoreOf t p g ≡ Score x → x < scoreEnd
+unfolding scoreOf
+score-below t p g x e = go (eqb (zoneOf t p g) 0) e
+  where
+    go : (b : Bool) → cond b NotAdmissible (Score (worthOf t p g)) ≡ Score x → x < scoreEnd
+    go true e = absurd (never e)
+      where
+        never : NotAdmissible ≡ Score x → ⊥
+        never e = let z : _≡_ {A = ℕ} 0 1 = cc in omega arith
+    go false e = let same : worthOf t p g ≡ x = cc in omega (arith, worth-below t p g)

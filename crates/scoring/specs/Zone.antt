@@ -1,0 +1,47 @@
+-- The zone of a pair (01, 'A pair'): dr and da are predicted minus reported, range and azimuth. Assumes nothing.
+use Prim.Native.Nat.{ℕ, _+_, _*_, _/_, min, max}
+use mathlib.Core.Bool.{Bool, cond, _&&_}
+use lib.Dec.{leb, ltb}
+use lib.IntN.{pos, natAbs, _-ℤ_}
+use Rattle.numbers.specs.Scales.{rangeSpeedMost, azimuthSpeedMost}
+use Rattle.numbers.specs.Azimuth.{azimuthDifference}
+use Rattle.records.specs.declared.Track.{Track}
+use Rattle.records.specs.declared.Report.{Report}
+use Rattle.records.specs.declared.Site.{Site}
+
+-- |dr| and |da|
+unfoldable pub rangeOff : Track → Report → ℕ
+rangeOff t p = natAbs (pos (t .range) -ℤ pos (p .range))
+
+unfoldable pub azimuthOff : Track → Report → ℕ
+azimuthOff t p = natAbs (azimuthDifference (t .azimuth) (p .azimuth))
+
+-- |dr| at most so many range sigmas, and |da| at most so many azimuth sigmas
+unfoldable pub withinSigmas : ℕ → Track → Report → Site → Bool
+withinSigmas n t p g = leb (rangeOff t p) (n * g .«range_sigma») && leb (azimuthOff t p) (n * g .«azimuth_sigma»)
+
+abbrev pub innerSigmas : ℕ
+innerSigmas = 4
+
+-- 8 + 4 x misses
+abbrev pub outerSigmas : Track → ℕ
+outerSigmas t = 8 + 4 * t .misses
+
+-- how far 600 knots reach across in a scan, in azimuth units at range 1
+abbrev pub crossReach : ℕ
+crossReach = 8552910
+
+-- the smaller of 8,192 and 8,552,910 / (predicted range, or 1 if that is 0), rounded down
+unfoldable pub azimuthReach : ℕ → ℕ
+azimuthReach range = min azimuthSpeedMost (crossReach / max range 1)
+
+-- updates 1: |dr| at most 820 and |da| at most its reach
+unfoldable pub withinReach : Track → Report → Bool
+withinReach t p = leb (rangeOff t p) rangeSpeedMost && leb (azimuthOff t p) (azimuthReach (t .range))
+
+unfoldable pub withinOuter : Track → Report → Site → Bool
+withinOuter t p g = cond (ltb 1 (t .updates)) (withinSigmas (outerSigmas t) t p g) (withinReach t p)
+
+-- the zone's digit: inner (tested first) 3, outer 6; 0 for a pair that is not admissible
+unfoldable pub zoneOf : Track → Report → Site → ℕ
+zoneOf t p g = cond (withinSigmas innerSigmas t p g) 3 (cond (withinOuter t p g) 6 0)
