@@ -1,5 +1,5 @@
 -- What a call leaves in a slot is well formed for the next call. Assumes nothing.
-use Prim.Native.Nat.{ℕ, _+_, _-_, _≤_, _<_}
+use Prim.Native.Nat.{ℕ, _+_, _-_, _≤_, _<_, min}
 use mathlib.Core.Path.{_≡_, refl}
 use mathlib.Core.Bool.{Bool, true, false, cond}
 use native.Mathlib.Omega.{arith}
@@ -16,7 +16,7 @@ use Rattle.records.specs.declared.Report.{Report}
 use Rattle.records.specs.Fields.{allowance, WellFormed, Sound}
 use Rattle.records.specs.Bytes.{waitAt, bytesOf}
 use Rattle.settling.specs.declared.Unpaired.the-variants.{Kept, Dropped}
-use Rattle.settling.specs.Settle.{Settleable, newSpeed, rangeAhead, azimuthAhead, updatedRange, updatedAzimuth, updatedRangeSpeed, updatedAzimuthSpeed, updatedOf, missedOf, coastedOf, startedOf, agedOf}
+use Rattle.settling.specs.Settle.{Settleable, updatesMost, newSpeed, rangeAhead, azimuthAhead, updatedRange, updatedAzimuth, updatedRangeSpeed, updatedAzimuthSpeed, updatedOf, missedOf, coastedOf, startedOf, agedOf}
 use Rattle.settling.proofs.Waits.{waits, wait-is, wait-latest}
 
 -- a well-formed track is one that can be settled
@@ -62,6 +62,11 @@ updated-served t p s h w = record {
   };
   again = wait-is s _;
 }
+
+-- its updates rise by 1 up to 255
+pub updated-updates : (t : Track) (p : Report) (s : ℕ) → updatedOf t p s .updates ≡ min (t .updates + 1) updatesMost
+unfolding updatedOf
+updated-updates t p s = refl
 
 -- a due track without a pair is kept while one more miss is allowed
 pub coasted-keeps : (t : Track) (s : ℕ) → t .misses + 1 ≤ allowance (t .updates) → coastedOf t s ≡ Kept (missedOf t s)

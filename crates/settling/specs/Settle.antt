@@ -7,7 +7,6 @@ use Rattle.numbers.specs.Scales.{rangeMost, rangeSpeedMost, azimuthSpeedMost}
 use Rattle.numbers.specs.Whole.{rounded, heldWithin, heldFromZero}
 use Rattle.numbers.specs.Azimuth.{azimuthDifference, azimuthMoved}
 use Rattle.numbers.specs.Sectors.{sectorOf, callsAhead}
-use Rattle.numbers.specs.declared.Int.{Int}
 use Rattle.records.specs.declared.Track.{Track}
 use Rattle.records.specs.declared.Report.{Report}
 use Rattle.records.specs.Fields.{held, allowance}

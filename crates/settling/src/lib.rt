@@ -2,7 +2,7 @@
 ghost use mathlib.Core.Path.{_≡_};
 ghost use Prim.Native.Nat.{_+_, _*_, _≤_, _<_, min};
 ghost use lib.IntN.{pos, natAbs, _*ℤ_};
-ghost use Rattle.numbers.specs.Scales.{rangeMost, halfTurn, sectors, rangeSpeedMost, azimuthSpeedMost};
+ghost use Rattle.numbers.specs.Scales.{rangeMost, sectors, rangeSpeedMost, azimuthSpeedMost};
 ghost use Rattle.records.specs.Fields.{Sound};
 ghost use Rattle.settling.specs.Gains.{tenths, listedAt, gain as Gains·gain, gainA, gainB};
 ghost use Rattle.settling.specs.Settle.{Settleable, newSpeed, correction as Settle·correction};
@@ -15,9 +15,9 @@ use records::Track;
 const TENTHS: u32 = 10;
 
 // The gains by quality, a row each, and confidence.
-const QUALITIES: usize = 4;
+const QUALITIES: usize = (records::QUALITY_MOST as usize) + 1;
 
-const CONFIDENCES: usize = 8;
+const CONFIDENCES: usize = (records::CONFIDENCE_MOST as usize) + 1;
 
 const GAINS_A: [[u32; CONFIDENCES]; QUALITIES] = [
     [6, 6, 6, 6, 6, 6, 6, 10],
