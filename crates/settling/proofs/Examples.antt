@@ -7,7 +7,7 @@ use Rattle.numbers.specs.Sectors.{callsAhead}
 use Rattle.settling.specs.Gains.{tenths}
 
 -- b 3, f 1: D 5 gives 2, D -5 gives -2
-speed-term-up : rounded (pos 5 *ℤ pos 3) (tenths * 1) ≡ pos 2
+pub speed-term-up : rounded (pos 5 *ℤ pos 3) (tenths * 1) ≡ pos 2
 unfolding rounded
 speed-term-up = refl
 
