@@ -1,11 +1,21 @@
 -- What callers count on of rounding, holding, remainders and circular distance. Assumes nothing.
 use Prim.Native.Nat.{ℕ, suc, _+_, _-_, _*_, _/_, _%_, _≤_, _<_, min, max}
-use mathlib.Core.Path.{_≡_, refl, sym}
+use mathlib.Core.Path.{_≡_, refl, sym, ap}
 use native.Mathlib.Nat.{mod-lt, mod-le, mul-assoc, mul-suc, div-add-mod}
 use native.Mathlib.Omega.{arith}
 use lib.IntN.{ℤ, pos, negsuc, natAbs, _-ℤ_, _*ℤ_, pos-*ℤ-negsuc}
 use Rattle.laws.proofs.Sizes.{neg-size, difference-size, neg-difference-size, neg-minus, times-neg, minus-more}
+use Rattle.numbers.specs.declared.Int.{Int}
 use Rattle.numbers.specs.Whole.{rounded, heldWithin, heldFromZero, remainder, circularDistance}
+
+-- ---- a number in its struct
+
+abbrev pub intOf : ℤ → Int
+intOf z = record { v = z }
+
+-- the struct is known by its number
+pub int-is : {x : Int} {z : ℤ} → x .v ≡ z → x ≡ intOf z
+int-is e = ap intOf e
 
 -- ---- rounding
 

@@ -1,0 +1,6 @@
+-- Laws of what becomes of a track.
+pub mod GainLaws
+pub mod Smoothing
+pub mod Waits
+pub mod HandedOn
+pub mod Examples
