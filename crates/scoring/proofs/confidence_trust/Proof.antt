@@ -24,7 +24,8 @@ add-result c = search needs
 returns : tie.Need-returns
 returns c =
     let s = c .before .before .before .before .args in
-    cc (confidence-form (s .t) (s .p))
+    rw (c .before .before .one-unless .ensures .0, c .before .before .before .sure-confidence .ensures, c .one-unless2 .ensures .0, c .before .sure-confidence2 .ensures)
+    (confidence-form (s .t) (s .p))
 
 pub confidence-trust-spec : {M : Type 1} → statement M
 confidence-trust-spec =
