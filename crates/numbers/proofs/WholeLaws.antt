@@ -1,9 +1,11 @@
 -- What callers count on of rounding, holding, remainders and circular distance. Assumes nothing.
-use Prim.Native.Nat.{ℕ, suc, _+_, _-_, _*_, _/_, _%_, _≤_, _<_, min, max}
+use Prim.Native.Nat.{ℕ, zero, suc, _+_, _-_, _*_, _/_, _%_, _≤_, _<_, min, max}
 use mathlib.Core.Path.{_≡_, refl, sym, ap}
-use native.Mathlib.Nat.{mod-lt, mod-le, mul-assoc, mul-suc, div-add-mod}
+use native.Mathlib.Nat.{mod-lt, mod-le, mul-assoc, mul-suc, div-add-mod, mod-eq-of-lt, mod-eq-sub-mod, add-mul-mod-self-right, le-of-lt}
+use native.Mathlib.Decide.{decLt}
+use mathlib.Core.Logic.{_⊎_, inl, inr, ⊎-elim}
 use native.Mathlib.Omega.{arith}
-use lib.IntN.{ℤ, pos, negsuc, natAbs, _-ℤ_, _*ℤ_, pos-*ℤ-negsuc}
+use lib.IntN.{ℤ, pos, negsuc, negℤ, natAbs, _-ℤ_, _*ℤ_, pos-*ℤ-negsuc}
 use Rattle.laws.proofs.Sizes.{neg-size, difference-size, neg-difference-size, neg-minus, times-neg, minus-more}
 use Rattle.numbers.specs.declared.Int.{Int}
 use Rattle.numbers.specs.Whole.{rounded, heldWithin, heldFromZero, remainder, circularDistance}
@@ -78,6 +80,24 @@ pub from-zero-same : (n k : ℕ) → k ≤ n → heldFromZero n (pos k) ≡ k
 unfolding heldFromZero
 from-zero-same n k h = omega arith
 
+-- what lies outside is held to the nearer end
+pub within-over : (n k : ℕ) → n ≤ k → heldWithin n (pos k) ≡ pos n
+unfolding heldWithin
+within-over n k h = let e : min k n ≡ n = omega arith in rw e
+
+pub within-under : (n k : ℕ) → n ≤ k → heldWithin n (negℤ (pos k)) ≡ negℤ (pos n)
+unfolding heldWithin
+within-under n zero h = let e : n ≡ 0 = omega arith in rw e
+within-under n (suc k) h = let e : min (suc k) n ≡ n = omega arith in rw e
+
+pub from-zero-over : (n k : ℕ) → n ≤ k → heldFromZero n (pos k) ≡ n
+unfolding heldFromZero
+from-zero-over n k h = omega arith
+
+pub from-zero-under : (n k : ℕ) → heldFromZero n (negsuc k) ≡ 0
+unfolding heldFromZero
+from-zero-under n k = refl
+
 -- ---- the remainder: 0 ≤ r < m, and m divides z - r
 
 pub remainder-lies : (z : ℤ) (m : ℕ) → 0 < m → remainder z m < m
@@ -95,7 +115,27 @@ remainder-divides (negsuc n) m h =
     let e : suc n + (m - suc (n % m)) ≡ m * suc (n / m) = rw (mul-suc m (n / m)) (omega (arith, div-add-mod n m)) in
     (negsuc (n / m), rw (neg-minus (suc n) (m - suc (n % m)), e) (sym (pos-*ℤ-negsuc m (n / m))))
 
--- ---- the short way round: at most half the circle, and the same from either end
+-- ---- the short way round: it leads from one to the other, no shorter way does, and it is the same from either end
+
+-- going d on from x, round a circle of n, comes to y
+abbrev pub Leads : (n x y d : ℕ) → Type 0
+Leads n x y d = (x + d) % n ≡ y
+
+around : (n x y : ℕ) → x < n → y < n → x ≤ y → (x + (y - x)) % n ≡ y
+around n x y hx hy h = let e : x + (y - x) ≡ y = omega arith in rw (e, mod-eq-of-lt hy)
+
+across : (n x y : ℕ) → y < n → x ≤ y → x < n → (y + (n - (y - x))) % n ≡ x
+across n x y hy h hx = let e : y + (n - (y - x)) ≡ x + 1 * n = omega arith in rw (e, add-mul-mod-self-right x 1 n, mod-eq-of-lt hx)
+
+circular-leads-up : (n x y : ℕ) → x < n → y < n → x ≤ y → Leads n x y (circularDistance n x y) ⊎ Leads n y x (circularDistance n x y)
+unfolding circularDistance
+circular-leads-up n x y hx hy h =
+    let a : max x y - min x y ≡ y - x = omega arith in
+    rw a (go (y - x) refl (decLt (y - x) (n - (y - x))))
+  where
+    go : (d : ℕ) → d ≡ y - x → Dec (d < n - d) → Leads n x y (min d (n - d)) ⊎ Leads n y x (min d (n - d))
+    go d q (yes l) = let e : min d (n - d) ≡ d = omega arith in inl (rw (e, q) (around n x y hx hy h))
+    go d q (no l) = let e : min d (n - d) ≡ n - d = omega arith in inr (rw (e, q) (across n x y hy h hx))
 
 pub circular-half : (n x y : ℕ) → 2 * circularDistance n x y ≤ n
 unfolding circularDistance
@@ -106,3 +146,22 @@ unfolding circularDistance
 circular-turned n x y =
     let e : max x y - min x y ≡ max y x - min y x = omega arith in
     rw e
+
+pub circular-leads : (n x y : ℕ) → x < n → y < n → Leads n x y (circularDistance n x y) ⊎ Leads n y x (circularDistance n x y)
+circular-leads n x y hx hy = go (decLt y x)
+  where
+    go : Dec (y < x) → Leads n x y (circularDistance n x y) ⊎ Leads n y x (circularDistance n x y)
+    go (yes l) = rw (circular-turned n x y) (⊎-elim inr inl (circular-leads-up n y x hy hx (le-of-lt l)))
+    go (no l) = circular-leads-up n x y hx hy (omega arith)
+
+-- any d below n that leads from x to y is no shorter
+pub circular-shortest : (n x y d : ℕ) → x < n → y < n → d < n → Leads n x y d → circularDistance n x y ≤ d
+unfolding circularDistance
+circular-shortest n x y d hx hy hd e = go (decLt (x + d) n)
+  where
+    go : Dec (x + d < n) → min (max x y - min x y) (n - (max x y - min x y)) ≤ d
+    go (yes l) = let z : x + d ≡ y = rw (mod-eq-of-lt l) at e in omega arith
+    go (no l) =
+        let f : (x + d - n) % n ≡ y = rw (mod-eq-sub-mod {n = x + d} {m = n} (omega arith)) at e in
+        let z : x + d - n ≡ y = rw (mod-eq-of-lt {n = x + d - n} {m = n} (omega arith)) at f in
+        omega arith

@@ -1,4 +1,4 @@
--- The numbers of document 01, 'Numbers carried', each named once. Assumes nothing.
+-- The scales of ranges, azimuths, sectors and waits (01, 'Numbers carried' and 'After pairing'), each number named once. Assumes nothing.
 use Prim.Native.Nat.{ℕ, _^_}
 
 -- the largest range, 65 nautical miles in 1/1024
@@ -26,10 +26,10 @@ rangeSpeedMost = 820
 abbrev pub azimuthSpeedMost : ℕ
 azimuthSpeedMost = 8192
 
--- a served track is due again this many calls later at the soonest, and never a whole turn after that
+-- a track served or started is due again this many calls later at the soonest, and less than a whole turn after that
 abbrev pub soonest : ℕ
 soonest = 16
 
--- what an Int holds is smaller than this, whatever its sign
+-- 64 bits hold every number whose size is below this
 abbrev pub intEnd : ℕ
 intEnd = 2 ^ 63

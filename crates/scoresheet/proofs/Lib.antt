@@ -1,4 +1,5 @@
 -- Laws of a sector's sheet.
 pub mod Due
 pub mod Rows
+pub mod SheetLaws
 pub mod Answers

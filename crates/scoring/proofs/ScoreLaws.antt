@@ -1,5 +1,5 @@
 -- Laws of the zone, of each digit, and of the score. Assumes nothing.
-use Prim.Native.Nat.{ℕ, _+_, _*_, _≤_, _<_}
+use Prim.Native.Nat.{ℕ, _+_, _*_, _≤_, _<_, _^_}
 use mathlib.Core.Path.{_≡_, refl}
 use mathlib.Core.Bool.{Bool, true, false, not, cond}
 use mathlib.Core.List.{List}
@@ -19,7 +19,7 @@ use Rattle.records.specs.Fields.{growingFrom, matureFrom, sureConfidence, sureQ
 use Rattle.scoring.specs.declared.Scored.the-variants.{NotAdmissible, Score}
 use Rattle.scoring.specs.Zone.{rangeOff, azimuthOff, withinSigmas, innerSigmas, withinOuter, zoneOf}
 use Rattle.scoring.specs.Score.{Scorable, pairPosition, oneUnless, dopplerAgrees, dopplerOf, updatesAge, ageOf, confidenceTrust, qualityTrust, trustOf}
-use Rattle.scoring.specs.Score.{scoreEnd, worthOf, scoreOf}
+use Rattle.scoring.specs.Score.{worthOf, scoreOf}
 use Rattle.scoring.proofs.PositionLaws.{position-most}
 
 -- a track and a report without a bad field can be scored
@@ -86,17 +86,17 @@ quality-most t p = omega (arith, one-unless-most (sureQuality (p .quality)), one
 
 -- ---- the score
 
-pub worth-below : (t : Track) (p : Report) (g : Site) → worthOf t p g < scoreEnd
+pub worth-below : (t : Track) (p : Report) (g : Site) → worthOf t p g < 8 ^ 7
 unfolding worthOf pairPosition dopplerOf ageOf trustOf
 worth-below t p g =
     omega (arith, zone-most t p g, position-most (rangeOff t p) (azimuthOff t p) (g .«range_sigma») (g .«azimuth_sigma»), one-unless-most (dopplerAgrees t p), updates-age-most (t .updates), one-unless-most (eqb (t .misses) 0), confidence-most t p, quality-most t p)
 
 -- every score is below 2,097,152
-pub score-below : (t : Track) (p : Report) (g : Site) (x : ℕ) → scoreOf t p g ≡ Score x → x < scoreEnd
+pub score-below : (t : Track) (p : Report) (g : Site) (x : ℕ) → scoreOf t p g ≡ Score x → x < 8 ^ 7
 unfolding scoreOf
 score-below t p g x e = go (eqb (zoneOf t p g) 0) e
   where
-    go : (b : Bool) → cond b NotAdmissible (Score (worthOf t p g)) ≡ Score x → x < scoreEnd
+    go : (b : Bool) → cond b NotAdmissible (Score (worthOf t p g)) ≡ Score x → x < 8 ^ 7
     go true e = absurd (never e)
       where
         never : NotAdmissible ≡ Score x → ⊥

@@ -69,10 +69,6 @@ trustOf t p = confidenceTrust t p + qualityTrust t p
 abbrev pub digitsWorth : (zone position doppler age trust : ℕ) → ℕ
 digitsWorth zone position doppler age trust = zone * 262144 + position * 512 + doppler * 64 + age * 8 + trust
 
--- every score is below this: seven octal digits
-abbrev pub scoreEnd : ℕ
-scoreEnd = 2097152
-
 -- the worth of an admissible pair
 unfoldable pub worthOf : Track → Report → Site → ℕ
 worthOf t p g = digitsWorth (zoneOf t p g) (pairPosition t p g) (dopplerOf t p) (ageOf t) (trustOf t p)

@@ -8,7 +8,7 @@ ghost use Rattle.numbers.specs.Scales.{rangeMost, halfTurn, rangeSpeedMost};
 ghost use Rattle.scoring.specs.Zone.{rangeOff, azimuthOff, withinSigmas, outerSigmas, azimuthReach, withinReach, withinOuter, zoneOf};
 ghost use Rattle.scoring.specs.Position.{square as Position·square, positionMost, positionOf};
 ghost use Rattle.scoring.specs.Score.{Scorable, oneUnless, dopplerNear, dopplerAgrees, updatesAge, ageOf, confidenceTrust, qualityTrust, trustOf};
-ghost use Rattle.scoring.specs.Score.{digitsWorth, scoreEnd, scoreOf};
+ghost use Rattle.scoring.specs.Score.{digitsWorth, scoreOf};
 use records::Report;
 use records::Site;
 use records::Track;
@@ -220,7 +220,7 @@ fn trust(t: Track, p: Report) -> u32
 }
 
 fn worth(zone: u32, position: u32, doppler: u32, age: u32, trust: u32) -> u32
-    requires { ⌜ digitsWorth zone position doppler age trust < scoreEnd ⌝ }
+    requires { ⌜ digitsWorth zone position doppler age trust < 8 ^ 7 ⌝ }
     ensures { λ r. ⌜ r ≡ digitsWorth zone position doppler age trust ⌝ }
 {
     zone * 262_144 + position * 512 + doppler * 64 + age * 8 + trust

@@ -1,14 +1,14 @@
--- The smoothed range lies between the predicted and the reported one, so holding it changes nothing. Assumes nothing.
+-- The smoothed range lies in 0..66,560, and for every gain of 01 it does so before it is held. Assumes nothing.
 use Prim.Native.Nat.{ℕ, zero, suc, _+_, _-_, _*_, _/_, _≤_, _<_}
 use mathlib.Core.Path.{_≡_, refl, ap}
 use native.Mathlib.Nat.{mul-le-mul-left}
 use native.Mathlib.Omega.{arith}
 use native.Mathlib.Decide.{decLt}
-use lib.IntN.{pos, negsuc, negℤ, _-ℤ_}
+use lib.IntN.{ℤ, pos, negsuc, negℤ, _-ℤ_}
 use Rattle.laws.proofs.Sizes.{minus-less, minus-more}
 use Rattle.numbers.specs.Scales.{rangeMost}
 use Rattle.numbers.specs.Whole.{rounded}
-use Rattle.numbers.proofs.WholeLaws.{from-zero-same}
+use Rattle.numbers.proofs.WholeLaws.{from-zero-lies, from-zero-same}
 use Rattle.settling.specs.Gains.{tenths}
 use Rattle.settling.specs.Settle.{correction, smoothedRange}
 
@@ -64,6 +64,11 @@ lands predicted reported a hp hr ha = go (decLt predicted reported)
           is-place = rw (minus-more predicted reported (omega arith), drawn-back n a, minus-more predicted (drawn n a) l);
         }
 
+pub smoothed-lies : (predicted a : ℕ) (D : ℤ) → smoothedRange predicted D a ≤ rangeMost
+unfolding smoothedRange
+smoothed-lies predicted a D = from-zero-lies rangeMost _
+
+-- holding changes nothing
 pub smoothed-in-range : (predicted reported a : ℕ) → predicted ≤ rangeMost → reported ≤ rangeMost → a ≤ tenths → pos (smoothedRange predicted (pos predicted -ℤ pos reported) a) ≡ pos predicted -ℤ correction (pos predicted -ℤ pos reported) a
 unfolding smoothedRange
 smoothed-in-range predicted reported a hp hr ha =
