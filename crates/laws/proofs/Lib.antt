@@ -6,3 +6,5 @@ pub mod Filled
 pub mod InPlace
 pub mod Fold
 pub mod Sizes
+pub mod Stores
+pub mod Parts
