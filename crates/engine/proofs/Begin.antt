@@ -8,10 +8,11 @@ use lib.ListN.{length, set, length-set}
 use lib.Seq.{getD-set-same, getD-set-other}
 use Rattle.matching.specs.Pairing.{none, leftOut, at}
 use Rattle.passes.specs.Cells.{far, IsCell, mostColumns}
-use Rattle.engine.specs.State.{cell, Shape, Own, Match, Good, Done, Ready, Inserted, Fresh, Claimed, Visit}
+use Rattle.paths.specs.State.{cell, Shape, Own, Match, Good, Done, Ready, Inserted}
+use Rattle.engine.specs.State.{Fresh, Claimed, Visit}
 use Rattle.laws.proofs.Stores.{same-or}
-use Rattle.engine.proofs.Swap.{refit, shape'}
-use Rattle.engine.proofs.Rows.{row, row-length, row-at, row-end}
+use Rattle.paths.proofs.Swap.{refit, shape'}
+use Rattle.paths.proofs.Rows.{row, row-length, row-at, row-end}
 
 pub good-len : (cells : List ℕ) (m n : ℕ) (pairing owner prices discounts : List ℕ) → Good cells m n pairing owner prices discounts → Good cells m (length prices) pairing owner prices discounts
 good-len cells m n pairing owner prices discounts G = rw (G .shape .lu) G

@@ -13,7 +13,8 @@ use Rattle.laws.specs.Sums.{Sum}
 use Rattle.laws.proofs.Sums.{sum-same, sum-add, sum-zero, sum-one, row-in}
 use Rattle.laws.proofs.Stores.{le-or-lt, same-or}
 use Rattle.matching.specs.Pairing.{none, scoreEnd, leftOut, Sheet, Admissible, Paired, ValidPairing, scoreOr, total, Certificate, at, sheetOf}
-use Rattle.engine.specs.State.{cell, Own, Solved}
+use Rattle.paths.specs.State.{cell, Own}
+use Rattle.engine.specs.State.{Solved}
 
 module _ {cells : List ℕ} {m n : ℕ} {pairing owner prices discounts : List ℕ} (S : Solved cells m n pairing owner prices discounts) where
   abbrev sheet : Sheet

@@ -1,6 +1,6 @@
 use Rattle.engine.proofs.Begin.{good-len, good-at}
 use mathlib.Core.Path.{_∙_}
-use Rattle.engine.specs.State.{Good, Done}
+use Rattle.paths.specs.State.{Good, Done}
 use borrow.Author.Count.{below-none, below-more}
 use lib.ListN.{length}
 use mathlib.Core.Path.{_≡_}

@@ -1,7 +1,7 @@
 use Rattle.matching.specs.Pairing.{none, at}
 use Rattle.engine.proofs.Begin.{good-len, good-at}
 use mathlib.Core.Path.{_∙_}
-use Rattle.engine.specs.State.{Good}
+use Rattle.paths.specs.State.{Good}
 use lib.ListN.{length}
 use mathlib.Core.Path.{_≡_}
 use Prim.Native.Nat.{ℕ, _≤_, _<_, _-_}

@@ -1,12 +1,12 @@
 use Rattle.matching.specs.Pairing.{at}
-use Rattle.engine.proofs.Swap.{holed, row-of, fall, flip-step}
+use Rattle.paths.proofs.Swap.{holed, row-of, fall, flip-step}
 use mathlib.Core.Logic.{⊎-elim}
-use Rattle.engine.specs.State.{Flips}
+use Rattle.paths.specs.State.{Flips}
 use lib.ListN.{length}
 use borrow.Author.Needs.{needs}
 use native.Mathlib.Omega.{arith}
-use Rattle.engine.proofs.flip.Statement.{statement}
-use Rattle.engine.proofs.flip.Tie as tie
+use Rattle.paths.proofs.flip.Statement.{statement}
+use Rattle.paths.proofs.flip.Tie as tie
 
 abbrev Inv-loop : tie.InvT-loop
 Inv-loop sheet m prices discounts track par shut start pairing₀ owner₀ h₀ pairing owner h = Flips sheet m (length prices) prices discounts track par shut pairing₀ pairing owner h

@@ -1,8 +1,8 @@
-use Rattle.engine.proofs.Settle.{flips-col, settled-col, settled-r, left-out, flips-row, settled-row}
+use Rattle.paths.proofs.Settle.{flips-col, settled-col, settled-r, left-out, flips-row, settled-row}
 use native.Mathlib.Omega.{arith}
 use borrow.Author.Needs.{needs}
-use Rattle.engine.proofs.finish.Statement.{statement}
-use Rattle.engine.proofs.finish.Tie as tie
+use Rattle.paths.proofs.finish.Statement.{statement}
+use Rattle.paths.proofs.finish.Tie as tie
 
 flip-requires : tie.Need-flip-requires
 flip-requires c κs = let s = c .before .before .before .before .before .before .before .before .before .before in

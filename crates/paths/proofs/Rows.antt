@@ -12,7 +12,7 @@ use Rattle.laws.proofs.Parts.{part, part-length, part-at, put-before, put-in}
 use Rattle.laws.proofs.Stores.{le-or-lt}
 use Rattle.matching.specs.Pairing.{at}
 use Rattle.passes.specs.Cells.{Step, Fair, Relaxed}
-use Rattle.engine.specs.State.{cell, Fit, Scanned}
+use Rattle.paths.specs.State.{cell, Fit, Scanned}
 
 -- row i, and row i from lo on
 abbrev pub row : List ℕ → ℕ → ℕ → List ℕ

@@ -5,11 +5,11 @@ use lib.ListN.{length, length-set}
 use native.Mathlib.Omega.{arith}
 use Rattle.matching.specs.Pairing.{leftOut, at}
 use Rattle.passes.specs.Cells.{far, Nearest}
-use Rattle.engine.specs.State.{Tree, zeros}
-use Rattle.engine.proofs.Advance.{zeros-set}
-use Rattle.engine.proofs.Growth.{Front, front-none, front-more, fit-root, plant, few, keys, pop-open, pop-own, fit-row, turn, ended-col, ended-leave}
-use Rattle.engine.proofs.search.Statement.{statement}
-use Rattle.engine.proofs.search.Tie as tie
+use Rattle.paths.specs.State.{Tree, zeros}
+use Rattle.paths.proofs.Advance.{zeros-set}
+use Rattle.paths.proofs.Growth.{Front, front-none, front-more, fit-root, plant, few, keys, pop-open, pop-own, fit-row, turn, ended-col, ended-leave}
+use Rattle.paths.proofs.search.Statement.{statement}
+use Rattle.paths.proofs.search.Tie as tie
 
 abbrev Inv-loop : tie.InvT-loop
 Inv-loop sheet reports track pairing owner prices discounts dist₀ par₀ shut₀ leaving₀ leaver₀ k₀ lo₀ j₀ dist par shut leaving leaver k lo j = Tree sheet reports (length prices) pairing owner prices discounts track leaving leaver k dist par shut × (Nearest dist shut leaving j × Front lo reports shut)

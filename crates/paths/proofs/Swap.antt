@@ -8,7 +8,7 @@ use lib.ListN.{set, length-set, List·getD-eq-default}
 use lib.Seq.{getD-set-same, getD-set-other}
 use Rattle.matching.specs.Pairing.{none, at}
 use Rattle.passes.specs.Cells.{far}
-use Rattle.engine.specs.State.{cell, Shape, Own, Match, Tight, Chain, Holed, Whole, Flips}
+use Rattle.paths.specs.State.{cell, Shape, Own, Match, Tight, Chain, Holed, Whole, Flips}
 use Rattle.laws.proofs.Stores.{same-or}
 
 module _ (cells : List ℕ) (m n : ℕ) (prices discounts pairing owner : List ℕ) (S : Shape cells m n pairing owner prices discounts) (h : ℕ) (hm : h < m)

@@ -8,7 +8,7 @@ use lib.ListN.{length, set, length-set}
 use lib.Seq.{getD-set-same, getD-set-other}
 use Rattle.matching.specs.Pairing.{none, leftOut, at}
 use Rattle.passes.specs.Cells.{Paid, far, RowsUp, ColsUp}
-use Rattle.engine.specs.State.{cell, Shape, Prices, Own, Match, Closed, Link, Tight, Ready, Ended, Turn, Settled, Done, Inserted}
+use Rattle.paths.specs.State.{cell, Shape, Prices, Own, Match, Closed, Link, Tight, Ready, Ended, Turn, Settled, Done, Inserted}
 use Rattle.laws.proofs.Stores.{le-or-lt}
 use Rattle.laws.proofs.Stores.{same-or}
 

@@ -8,9 +8,9 @@ use lib.ListN.{set, length-set}
 use lib.Seq.{getD-set-same, getD-set-other}
 use Rattle.matching.specs.Pairing.{none, leftOut, at}
 use Rattle.passes.specs.Cells.{far}
-use Rattle.engine.specs.State.{Own, Flips, Flipped, Turn, Settled}
+use Rattle.paths.specs.State.{Own, Flips, Flipped, Turn, Settled}
 use Rattle.laws.proofs.Stores.{same-or}
-use Rattle.engine.proofs.Swap.{chain-set}
+use Rattle.paths.proofs.Swap.{chain-set}
 
 module _ (cells : List ℕ) (m n : ℕ) (prices discounts : List ℕ) (track : ℕ) (par shut : List ℕ) (report leaver : ℕ) (pairing owner : List ℕ)
     (T : Turn cells m n prices discounts track par shut report leaver pairing owner) where

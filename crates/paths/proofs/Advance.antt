@@ -9,7 +9,7 @@ use lib.ListN.{length, set, length-set}
 use lib.Seq.{getD-set-same, getD-set-other}
 use Rattle.matching.specs.Pairing.{leftOut, at}
 use Rattle.passes.specs.Cells.{far, Step}
-use Rattle.engine.specs.State.{cell, zeros, Prices, Own, Closed, Link, Tree}
+use Rattle.paths.specs.State.{cell, zeros, Prices, Own, Closed, Link, Tree}
 use Rattle.laws.proofs.Stores.{same-or}
 
 pub zeros-set : (xs : List ℕ) (j v : ℕ) → j < length xs → at xs j ≡ 0 → 0 < v → zeros (set xs j v) + 1 ≡ zeros xs

@@ -2,9 +2,9 @@ use borrow.Author.Needs.{needs}
 use native.Mathlib.Omega.{arith}
 use lib.ListN.{length}
 use Rattle.laws.proofs.Sums.{row-in}
-use Rattle.engine.proofs.Rows.{fair, scanned}
-use Rattle.engine.proofs.scan.Statement.{statement}
-use Rattle.engine.proofs.scan.Tie as tie
+use Rattle.paths.proofs.Rows.{fair, scanned}
+use Rattle.paths.proofs.scan.Statement.{statement}
+use Rattle.paths.proofs.scan.Tie as tie
 
 idx-requires : tie.Need-idx-requires
 idx-requires c κs = search needs

@@ -1,8 +1,8 @@
-use Rattle.engine.proofs.Lift.{paid, u1-small, turned-len, inserted-len}
+use Rattle.paths.proofs.Lift.{paid, u1-small, turned-len, inserted-len}
 use native.Mathlib.Omega.{arith}
 use borrow.Author.Needs.{needs}
-use Rattle.engine.proofs.insert.Statement.{statement}
-use Rattle.engine.proofs.insert.Tie as tie
+use Rattle.paths.proofs.insert.Statement.{statement}
+use Rattle.paths.proofs.insert.Tie as tie
 
 search-requires : tie.Need-search-requires
 search-requires c κs = c .before .before .before .before .before .before .before .before .before .before .before .before .before .before .before .pre

@@ -8,10 +8,10 @@ use lib.ListN.{length, set, length-set}
 use lib.Seq.{getD-set-same, getD-set-other}
 use Rattle.matching.specs.Pairing.{none, leftOut, at}
 use Rattle.passes.specs.Cells.{far, FromLabels, Nearest}
-use Rattle.engine.specs.State.{Own, Link, Tree, Scanned, Fit, Ready, Ended}
+use Rattle.paths.specs.State.{Own, Link, Tree, Scanned, Fit, Ready, Ended}
 use Rattle.laws.proofs.Stores.{le-or-lt}
 use Rattle.laws.proofs.Stores.{same-or}
-use Rattle.engine.proofs.Advance.{advance, zeros-all}
+use Rattle.paths.proofs.Advance.{advance, zeros-all}
 
 -- the reports before lo are closed
 pub record Front (lo m : ℕ) (shut : List ℕ) : Type 0 where
