@@ -4,15 +4,17 @@ use libc::STDOUT_FILENO;
 use matching::LEFT_OUT;
 use matching::NONE;
 use matching::SCORE_END;
-
 ghost use mathlib.Core.Path.{_≡_};
 ghost use Prim.Native.Nat.{_+_, _-_, _*_, _≤_, _<_};
 ghost use lib.ListN.{length};
 ghost use Rattle.matching.specs.Pairing.{mostTracks, mostReports};
 
 const SIZES: usize = 6;
+
 const WIDE: usize = 100;
+
 const CELLS: usize = 10000;
+
 const NUMBERS: u64 = 2147483648;
 
 // What a family came to.
@@ -25,7 +27,7 @@ struct Tally {
 }
 
 // One pairing: its pairs, and the sum of their scores.
-struct Outcome {
+struct Pairs {
     pairs: u64,
     scores: u64,
 }
@@ -97,6 +99,10 @@ fn wide(x: u32) -> u64
     x as u64
 }
 
+fn index(x: u32) -> usize {
+    x as usize
+}
+
 // The bit of a report among those that are taken.
 fn bit(j: usize) -> u32 {
     match j {
@@ -132,7 +138,10 @@ fn least_total(sheet: &[u32], tracks: usize, reports: usize, i: usize, j: usize,
     if barred(cell, taken, j) {
         return without;
     }
-    least(without, wide(cell) + least_total(sheet, tracks, reports, i + 1, 0, taken | bit(j)))
+    least(
+        without,
+        wide(cell) + least_total(sheet, tracks, reports, i + 1, 0, taken | bit(j)),
+    )
 }
 
 // The score of a track's pair, and 0 for a report that is not there.
@@ -140,21 +149,21 @@ fn score_at(sheet: &[u32], at: usize) -> u64 {
     if at < sheet.len() { wide(sheet[at]) } else { 0 }
 }
 
-fn outcome(sheet: &[u32], reports: usize, pairing: &[u32]) -> Outcome
+fn outcome(sheet: &[u32], reports: usize, pairing: &[u32]) -> Pairs
     requires { ⌜ (length (now pairing) ≤ mostTracks) × (reports ≤ mostReports) ⌝ }
 {
     let mut pairs: u64 = 0;
     let mut scores: u64 = 0;
     let mut i: usize = 0;
     while i < pairing.len() {
-        let report = pairing[i] as usize;
+        let report = index(pairing[i]);
         if report < reports {
             pairs = std::num::wrapping_add_u64(pairs, 1);
             scores = std::num::wrapping_add_u64(scores, score_at(sheet, i * reports + report));
         }
         i += 1;
     }
-    Outcome {
+    Pairs {
         pairs: pairs,
         scores: scores,
     }
@@ -164,25 +173,26 @@ fn one_if(yes: bool) -> u64 {
     if yes { 1 } else { 0 }
 }
 
-// One sheet more of a family. Small sheets are settled by a search of all pairings too.
-fn run(family: u32, tracks: usize, reports: usize, seed: u64, small: bool, before: Tally) -> Tally
-    requires { ⌜ (tracks ≤ mostTracks) × (reports ≤ mostReports) ⌝ }
+// One sheet more of a family: what the check says of its pairing. Small sheets are settled by a search of all pairings too.
+fn judge(
+    cells: &[u32],
+    tracks: usize,
+    reports: usize,
+    pairing: &[u32],
+    verdict: u8,
+    small: bool,
+    before: Tally,
+) -> Tally
+    requires { ⌜ (tracks ≤ mostTracks) × ((reports ≤ mostReports) × ((10000 ≤ length (now cells)) × (100 ≤ length (now pairing)))) ⌝ }
 {
-    let mut cells = room();
-    let mut pairing = list();
-    let mut prices = list();
-    let mut discounts = list();
-    let count = tracks * reports;
-    fill_sheet(family, reports, seed, &mut cells[..count]);
-    engine::pair_sheet(tracks, reports, &cells, &mut pairing, &mut prices, &mut discounts);
-    let verdict = matching::check_pairing(tracks, reports, &cells, &pairing, &prices, &discounts);
-    let found = outcome(&cells, reports, &pairing[..tracks]);
+    let found = outcome(cells, reports, &pairing[..tracks]);
     let pairs = found.pairs;
     let scores = found.scores;
     let left = std::num::wrapping_sub_u64(tracks as u64, pairs) % 128;
     let mut agreed: u64 = 0;
     if small {
-        agreed = one_if(left * wide(LEFT_OUT) + scores % NUMBERS == least_total(&cells, tracks, reports, 0, 0, 0));
+        let total = least_total(cells, tracks, reports, 0, 0, 0);
+        agreed = one_if(left * (LEFT_OUT as u64) + scores % NUMBERS == total);
     }
     Tally {
         sheets: std::num::wrapping_add_u64(before.sheets, 1),
@@ -191,6 +201,48 @@ fn run(family: u32, tracks: usize, reports: usize, seed: u64, small: bool, befor
         pairs: std::num::wrapping_add_u64(before.pairs, pairs),
         scores: std::num::wrapping_add_u64(before.scores, scores),
     }
+}
+
+// The sheet is made, paired and checked in the lists that are lent.
+fn settle(
+    family: u32,
+    tracks: usize,
+    reports: usize,
+    seed: u64,
+    small: bool,
+    before: Tally,
+    cells: &mut [u32],
+    pairing: &mut [u32],
+    prices: &mut [u32],
+    discounts: &mut [u32],
+) -> Tally
+    requires { ⌜ (tracks ≤ mostTracks) × ((reports ≤ mostReports) × ((10000 ≤ length (now cells)) × (100 ≤ length (now pairing)))) ⌝ }
+{
+    fill_sheet(family, reports, seed, cells);
+    engine::pair_sheet(tracks, reports, cells, pairing, prices, discounts);
+    let verdict = matching::check_pairing(tracks, reports, cells, pairing, prices, discounts);
+    judge(cells, tracks, reports, pairing, verdict, small, before)
+}
+
+fn run(family: u32, tracks: usize, reports: usize, seed: u64, small: bool, before: Tally) -> Tally
+    requires { ⌜ (tracks ≤ mostTracks) × (reports ≤ mostReports) ⌝ }
+{
+    let mut cells = room();
+    let mut pairing = list();
+    let mut prices = list();
+    let mut discounts = list();
+    settle(
+        family,
+        tracks,
+        reports,
+        seed,
+        small,
+        before,
+        &mut cells,
+        &mut pairing,
+        &mut prices,
+        &mut discounts,
+    )
 }
 
 fn nothing() -> Tally {
