@@ -7,6 +7,7 @@ use mathlib.Core.Logic.{_⊎_, inl, inr, ⊎-elim}
 use native.Mathlib.Nat.{lt-suc-self, le-step, le-antisymm, eq-or-lt-of-le, le-of-suc-le-suc, not-suc-le-zero}
 use native.Mathlib.Numerals.{add-one}
 use native.Mathlib.Omega.{arith}
+use lib.Dec.{T, ltb, ltb→lt}
 use lib.ListN.{getD}
 use Rattle.laws.specs.Tests.{each, holds, refuse}
 
@@ -130,9 +131,9 @@ one-fails (b ∷ bs) (suc k) e = and-fails b (holds bs) (one-fails bs k e)
 
 -- ---- a chain of refusals: no number comes of it just where each test holds
 
-pub refuse-none : (k : ℕ) (ok : Bool) (rest : ℕ) → refuse (suc k) ok rest ≡ 0 → (ok ≡ true) × (rest ≡ 0)
-refuse-none k true rest e = (refl, e)
-refuse-none k false rest e = absurd (omega arith)
+pub refuse-none : (k : ℕ) (ok : Bool) (rest : ℕ) → refuse k ok rest ≡ 0 → T (ltb 0 k) → (ok ≡ true) × (rest ≡ 0)
+refuse-none k true rest e h = (refl, e)
+refuse-none k false rest e h = absurd (omega (arith, ltb→lt 0 k h))
 
 -- two chains agree where their tests do, and the rest wherever the test holds
 pub refuse-same : (k : ℕ) (ok ok′ : Bool) (rest rest′ : ℕ) → ok ≡ ok′ → (ok ≡ true → rest ≡ rest′) → refuse k ok rest ≡ refuse k ok′ rest′

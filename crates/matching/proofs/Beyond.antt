@@ -11,7 +11,7 @@ use borrow.Author.Tests.{ltb-true, eqb-false}
 use Rattle.laws.proofs.Tests.{each-same, refuse-same, and-same}
 use Rattle.laws.proofs.Sums.{sum-same}
 use Rattle.matching.specs.Pairing.{none, leftOut, total, at, Alike, sheetOf}
-use Rattle.matching.specs.Answer.{Sizes, cellOk, cellsOk, entryOk, pairingOk, numbersOk, scoresOk, totalsOk, sheetRefusal, checkAnswer}
+use Rattle.matching.specs.Answer.{Fits, cellOk, cellsOk, entryOk, pairingOk, numbersOk, scoresOk, totalsOk, sheetRefusal, checkAnswer}
 use Rattle.matching.proofs.Facts as facts
 
 module _ (n m : ℕ) (s s′ : List ℕ) (c : Alike (n * m) (at s) (at s′)) where
@@ -38,11 +38,11 @@ module _ (n m : ℕ) (s s′ : List ℕ) (c : Alike (n * m) (at s) (at s′)) wh
 
     total-same : pairingOk (sheetOf n m s) (at p) ≡ true → total (sheetOf n m s) (at p) ≡ total (sheetOf n m s′) (at p′)
     unfolding total
-    total-same e = sum-same n _ _ (λ i l. rw (← a i l) (cost i l (eqb (at p i) none) refl))
+    total-same e = sum-same n _ _ (λ i l. rw (← a i l) (cost _ i l (eqb (at p i) none) refl))
       where
-        cost : (i : ℕ) → i < n → (b : Bool) → eqb (at p i) none ≡ b → cond b leftOut (at s (i * m + at p i)) ≡ cond b leftOut (at s′ (i * m + at p i))
-        cost i l true f = refl
-        cost i l false f =
+        cost : (c i : ℕ) → i < n → (b : Bool) → eqb (at p i) none ≡ b → cond b c (at s (i * m + at p i)) ≡ cond b c (at s′ (i * m + at p i))
+        cost c i l true f = refl
+        cost c i l false f =
             cell-same i (at p i) l (facts.valid (sheetOf n m s) (at p) e .there i l (eqb-false (at p i) none f))
 
   module _ (u u′ v v′ : List ℕ) (a : Alike n (at u) (at u′)) (b : Alike m (at v) (at v′)) where
@@ -54,16 +54,16 @@ numbers-same : (n : ℕ) (f g : ℕ → ℕ) → Alike n f g → numbersOk n f �
 unfolding numbersOk
 numbers-same n f g a = each-same _ _ n (λ i l. ap (λ x. leb x leftOut) (a i l))
 
-pub answer-same : (n m : ℕ) (s s′ p p′ u u′ v v′ : List ℕ) → Sizes n m (length s) (length p) (length u) (length v) → Sizes n m (length s′) (length p′) (length u′) (length v′) → Alike (n * m) (at s) (at s′) → Alike n (at p) (at p′) → Alike n (at u) (at u′) → Alike m (at v) (at v′) → checkAnswer n m s p u v ≡ checkAnswer n m s′ p′ u′ v′
+pub answer-same : (n m : ℕ) (s s′ p p′ u u′ v v′ : List ℕ) → Fits n m s p u v → Fits n m s′ p′ u′ v′ → Alike (n * m) (at s) (at s′) → Alike n (at p) (at p′) → Alike n (at u) (at u′) → Alike m (at v) (at v′) → checkAnswer n m s p u v ≡ checkAnswer n m s′ p′ u′ v′
 unfolding checkAnswer sheetRefusal totalsOk
 answer-same n m s s′ p p′ u u′ v v′ z z′ cs ps us vs =
-    refuse-same 21 _ _ _ _
+    refuse-same _ _ _ _ _
     (facts.sizes-ok n m (length s) (length p) (length u) (length v) z ∙ sym (facts.sizes-ok n m (length s′) (length p′) (length u′) (length v′) z′))
-    (λ e₁. refuse-same 22 _ _ _ _ (cells-same n m s s′ cs)
-    (λ e₂. refuse-same 23 _ _ _ _ (pairing-same n m s s′ cs p p′ ps)
-    (λ e₃. refuse-same 24 _ _ _ _ (and-same _ _ _ _ (numbers-same n (at u) (at u′) us) (λ t. numbers-same m (at v) (at v′) vs))
-    (λ e₄. refuse-same 25 _ _ _ _ (scores-same n m s s′ cs u u′ v v′ us vs)
-    (λ e₅. refuse-same 26 _ _ _ _
+    (λ e₁. refuse-same _ _ _ _ _ (cells-same n m s s′ cs)
+    (λ e₂. refuse-same _ _ _ _ _ (pairing-same n m s s′ cs p p′ ps)
+    (λ e₃. refuse-same _ _ _ _ _ (and-same _ _ _ _ (numbers-same n (at u) (at u′) us) (λ t. numbers-same m (at v) (at v′) vs))
+    (λ e₄. refuse-same _ _ _ _ _ (scores-same n m s s′ cs u u′ v v′ us vs)
+    (λ e₅. refuse-same _ _ _ _ _
     (cong₃ (sum-same n (at u) (at u′) us) (total-same n m s s′ cs p p′ ps e₃) (sum-same m (at v) (at v′) vs))
     (λ e₆. refl))))))
   where

@@ -101,7 +101,7 @@ no-misses S P z i l e =
     omega (arith, sum-less (S .tracks) i (λ k. 0) (λ k. cond (eqb (P k) none) 1 0) l (rw (eq-eqb (P i) none e) (lt-suc-self 0)) (λ k h. zero-le))
 
 -- the scores of a valid pairing come to less than one track left out
-scores-few : (S : Sheet) (P : ℕ → ℕ) → InRange S → ValidPairing S P → scoreSum S P < leftOut
+pub scores-few : (S : Sheet) (P : ℕ → ℕ) → InRange S → ValidPairing S P → scoreSum S P < leftOut
 unfolding scoreSum
 scores-few S P r p =
     let a : Sum (S .tracks) (scoreOr 0 S P) ≤ S .tracks * (scoreEnd - 1) =

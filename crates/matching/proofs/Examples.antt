@@ -27,7 +27,7 @@ two-accepted = refl
 
 -- * best total 32
 pub two-best : Best (sheetOf 2 2 two) (at crossed)
-two-best = zero-is-best 2 2 two (20 ∷ 22 ∷ []) (10 ∷ 0 ∷ []) crossed two-accepted
+two-best = zero-is-best 2 2 two crossed (20 ∷ 22 ∷ []) (10 ∷ 0 ∷ []) two-accepted
 
 pub two-total : total (sheetOf 2 2 two) (at crossed) ≡ 32
 unfolding total Sum
@@ -47,7 +47,7 @@ unfolding total Sum
 alone-price s p u v e = go (eqb (at p 0) none) refl (c .totals)
   where
     c : Certificate (sheetOf 1 0 s) (at p) (at u) (at v)
-    c = zero-certificate 1 0 s u v p e .1
+    c = zero-certificate 1 0 s p u v e .1
 
     go : (b : Bool) → eqb (at p 0) none ≡ b → 0 + at u 0 ≡ 0 + cond b leftOut (at s (0 * 0 + at p 0)) + 0 → at u 0 ≡ leftOut
     go true f h = omega arith

@@ -149,18 +149,18 @@ module _ (n m : ℕ) (s : List ℕ) (pairing prices discounts : ℕ) where
   -- a refusal stands, whatever would follow
   pub refusal-stands : (sheetRefusal n m s pairing prices discounts 0 ≡ 0 → ⊥) → (rest : ℕ) → sheetRefusal n m s pairing prices discounts 0 ≡ sheetRefusal n m s pairing prices discounts rest
   unfolding sheetRefusal
-  refusal-stands h rest = go (sizesOk n m (length s) pairing prices discounts) (cellsOk (n * m) s) h
+  refusal-stands h rest = go _ _ (sizesOk n m (length s) pairing prices discounts) (cellsOk (n * m) s) h
     where
-      go : (a b : Bool) → (refuse 21 a (refuse 22 b 0) ≡ 0 → ⊥) → refuse 21 a (refuse 22 b 0) ≡ refuse 21 a (refuse 22 b rest)
-      go false b h = refl
-      go true false h = refl
-      go true true h = absurd (h refl)
+      go : (j k : ℕ) (a b : Bool) → (refuse j a (refuse k b 0) ≡ 0 → ⊥) → refuse j a (refuse k b 0) ≡ refuse j a (refuse k b rest)
+      go j k false b h = refl
+      go j k true false h = refl
+      go j k true true h = absurd (h refl)
 
   passes : sheetRefusal n m s pairing prices discounts 0 ≡ 0 → (sizesOk n m (length s) pairing prices discounts ≡ true) × (cellsOk (n * m) s ≡ true)
   unfolding sheetRefusal
   passes e =
-      let a = refuse-none 20 (sizesOk n m (length s) pairing prices discounts) (refuse 22 (cellsOk (n * m) s) 0) e in
-      (a .0, refuse-none 21 (cellsOk (n * m) s) 0 (a .1) .0)
+      let a = refuse-none _ _ _ e tt in
+      (a .0, refuse-none _ _ _ (a .1) tt .0)
 
   -- with no refusal the rest follows
   pub refusal-passed : sheetRefusal n m s pairing prices discounts 0 ≡ 0 → (rest : ℕ) → sheetRefusal n m s pairing prices discounts rest ≡ rest

@@ -1,13 +1,13 @@
 -- What the referee's word is worth. Each theorem with its plain meaning; the definitions are those of specs/. Assumes nothing.
 use Prim.Native.Nat.{ℕ, _-_, _*_, _≤_, _<_}
-use mathlib.Core.Path.{_≡_, sym}
+use mathlib.Core.Path.{_≡_, sym, _∙_}
 use mathlib.Core.List.{List}
 use native.Mathlib.Omega.{arith}
 use lib.ListN.{length}
 use borrow.Author.Tests.{eq-eqb, eqb-true}
 use Rattle.laws.proofs.Tests.{refuse-none}
 use Rattle.matching.specs.Pairing.{none, scoreEnd, leftOut, mostTracks, Sheet, Admissible, InRange, Paired, ValidPairing, pairs, misses, scoreSum, total, Best, Certificate, at, Alike, sheetOf, BestList}
-use Rattle.matching.specs.Answer.{Sizes, sheetRefusal, totalsOk, checkAnswer}
+use Rattle.matching.specs.Answer.{Sizes, Fits, sheetRefusal, totalsOk, checkAnswer}
 use Rattle.matching.proofs.Duality as duality
 use Rattle.matching.proofs.Facts as facts
 use Rattle.matching.proofs.Same as same
@@ -18,6 +18,10 @@ use Rattle.matching.proofs.Beyond as beyond
 -- track out.
 pub leaving-out-is-never-cheap : mostTracks * (scoreEnd - 1) < leftOut
 leaving-out-is-never-cheap = duality.bound
+
+-- So the scores of any valid pairing come to less than that.
+pub scores-stay-under : (S : Sheet) (P : ℕ → ℕ) → InRange S → ValidPairing S P → scoreSum S P < leftOut
+scores-stay-under = duality.scores-few
 
 -- ---- certificates
 
@@ -72,6 +76,10 @@ all-are-served S P Q b q all =
 pub no-report-unused : (S : Sheet) (P : ℕ → ℕ) → Best S P → S .reports ≤ none → (i j : ℕ) → i < S .tracks → P i ≡ none → j < S .reports → Admissible S i j → (k : ℕ) × ((k < S .tracks) × (P k ≡ j))
 no-report-unused = unused.no-unused
 
+-- A pairing is what it says of the tracks that are there.
+pub best-alike : (S : Sheet) (P Q : ℕ → ℕ) → Alike (S .tracks) P Q → Best S P → Best S Q
+best-alike = same.best-same
+
 -- Best over lists of report numbers, and best over functions, say the same.
 pub list-is-best : (S : Sheet) (p : List ℕ) → BestList S p → Best S (at p)
 list-is-best = same.list-best
@@ -81,83 +89,93 @@ best-is-list = same.best-list
 
 -- ---- the check's answer
 
-abbrev pub Fits : (n m : ℕ) (cells pairing prices discounts : List ℕ) → Type 0
-Fits n m s p u v = Sizes n m (length s) (length p) (length u) (length v)
+-- Two results that meet the check's contract are equal.
+pub one-answer : (n m : ℕ) (s p u v : List ℕ) (r r′ : ℕ) → r ≡ checkAnswer n m s p u v → r′ ≡ checkAnswer n m s p u v → r ≡ r′
+one-answer n m s p u v r r′ e f = e ∙ sym f
 
-module _ (n m : ℕ) (s u v : List ℕ) where
-  -- The answer is 0 just where the lists are long enough and hold a certificate.
-  pub zero-certificate : (p : List ℕ) → checkAnswer n m s p u v ≡ 0 → Fits n m s p u v × Certificate (sheetOf n m s) (at p) (at u) (at v)
-  unfolding checkAnswer sheetRefusal totalsOk
-  zero-certificate p e =
-      let a₁ = refuse-none 20 _ _ e in
-      let a₂ = refuse-none 21 _ _ (a₁ .1) in
-      let a₃ = refuse-none 22 _ _ (a₂ .1) in
-      let a₄ = refuse-none 23 _ _ (a₃ .1) in
-      let a₅ = refuse-none 24 _ _ (a₄ .1) in
-      let a₆ = refuse-none 25 _ _ (a₅ .1) in
-      let z = facts.sizes n m (length s) (length p) (length u) (length v) (a₁ .0) in (
-        z,
-        record {
-          range = facts.in-range n m s (z .tracks-few) (a₂ .0);
-          valid = facts.valid (sheetOf n m s) (at p) (a₃ .0);
-          fair = facts.fair (sheetOf n m s) (at u) (at v) (a₄ .0) (a₅ .0);
-          totals = eqb-true _ _ (a₆ .0);
-        },
-      )
+-- A sheet is refused with neither 21 nor 22 just where the lists are long enough, by their lengths, and its cells in range.
+pub not-refused : (n m : ℕ) (s : List ℕ) (pairing prices discounts : ℕ) → sheetRefusal n m s pairing prices discounts 0 ≡ 0 → Sizes n m (length s) pairing prices discounts × InRange (sheetOf n m s)
+not-refused n m s pairing prices discounts e =
+    (facts.passed-sizes n m s pairing prices discounts e, facts.passed-range n m s pairing prices discounts e)
 
-  pub certificate-zero : (p : List ℕ) → Fits n m s p u v → Certificate (sheetOf n m s) (at p) (at u) (at v) → checkAnswer n m s p u v ≡ 0
-  unfolding checkAnswer sheetRefusal totalsOk
-  certificate-zero p z c =
-      rw (
-        facts.sizes-ok n m (length s) (length p) (length u) (length v) z,
-        facts.cells-ok n m s (c .range),
-        facts.pairing-ok (sheetOf n m s) (at p) (c .valid),
-        facts.numbers-ok (sheetOf n m s) (at u) (at v) (c .fair),
-        facts.scores-ok (sheetOf n m s) (at u) (at v) (c .fair),
-        eq-eqb _ _ (c .totals),
-      )
+pub ready-is-not-refused : (n m : ℕ) (s : List ℕ) (pairing prices discounts : ℕ) → Sizes n m (length s) pairing prices discounts → InRange (sheetOf n m s) → sheetRefusal n m s pairing prices discounts 0 ≡ 0
+ready-is-not-refused n m s pairing prices discounts z r = facts.ready-passes n m s pairing prices discounts z r 0
 
-  -- What the check accepts is best.
-  pub zero-is-best : (p : List ℕ) → checkAnswer n m s p u v ≡ 0 → Best (sheetOf n m s) (at p)
-  zero-is-best p e = accepted-is-best (sheetOf n m s) (at p) (at u) (at v) (zero-certificate p e .1)
-
-  -- With one pairing's accepted numbers it accepts every best pairing.
-  pub best-is-zero : (p q : List ℕ) → checkAnswer n m s p u v ≡ 0 → n ≤ length q → Best (sheetOf n m s) (at q) → checkAnswer n m s q u v ≡ 0
-  best-is-zero p q e l b =
-      let c = zero-certificate p e in
-      let z : Fits n m s q u v =
+-- The answer is 0 just where the lists are long enough and hold a certificate.
+pub zero-certificate : (n m : ℕ) (s p u v : List ℕ) → checkAnswer n m s p u v ≡ 0 → Fits n m s p u v × Certificate (sheetOf n m s) (at p) (at u) (at v)
+unfolding checkAnswer sheetRefusal totalsOk
+zero-certificate n m s p u v e =
+    let a₁ = refuse-none _ _ _ e tt in
+    let a₂ = refuse-none _ _ _ (a₁ .1) tt in
+    let a₃ = refuse-none _ _ _ (a₂ .1) tt in
+    let a₄ = refuse-none _ _ _ (a₃ .1) tt in
+    let a₅ = refuse-none _ _ _ (a₄ .1) tt in
+    let a₆ = refuse-none _ _ _ (a₅ .1) tt in
+    let z = facts.sizes n m (length s) (length p) (length u) (length v) (a₁ .0) in (
+      z,
       record {
-        tracks-few = c .0 .tracks-few;
-        reports-few = c .0 .reports-few;
-        cells-long = c .0 .cells-long;
-        pairing-long = l;
-        prices-long = c .0 .prices-long;
-        discounts-long = c .0 .discounts-long;
-      } in
-      certificate-zero q z (best-is-accepted (sheetOf n m s) (at p) (at q) (at u) (at v) (c .1) b)
+        range = facts.in-range n m s (z .tracks-few) (a₂ .0);
+        valid = facts.valid (sheetOf n m s) (at p) (a₃ .0);
+        fair = facts.fair (sheetOf n m s) (at u) (at v) (a₄ .0) (a₅ .0);
+        totals = eqb-true _ _ (a₆ .0);
+      },
+    )
 
--- What the answer 0 says of a pairing p of n tracks with m reports, all in one.
-pub record Accepted (n m : ℕ) (s p : List ℕ) : Type 0 where
+pub certificate-zero : (n m : ℕ) (s p u v : List ℕ) → Fits n m s p u v → Certificate (sheetOf n m s) (at p) (at u) (at v) → checkAnswer n m s p u v ≡ 0
+unfolding checkAnswer sheetRefusal totalsOk
+certificate-zero n m s p u v z c =
+    rw (
+      facts.sizes-ok n m (length s) (length p) (length u) (length v) z,
+      facts.cells-ok n m s (c .range),
+      facts.pairing-ok (sheetOf n m s) (at p) (c .valid),
+      facts.numbers-ok (sheetOf n m s) (at u) (at v) (c .fair),
+      facts.scores-ok (sheetOf n m s) (at u) (at v) (c .fair),
+      eq-eqb _ _ (c .totals),
+    )
+
+-- What the check accepts is best.
+pub zero-is-best : (n m : ℕ) (s p u v : List ℕ) → checkAnswer n m s p u v ≡ 0 → Best (sheetOf n m s) (at p)
+zero-is-best n m s p u v e = accepted-is-best (sheetOf n m s) (at p) (at u) (at v) (zero-certificate n m s p u v e .1)
+
+-- With the numbers that it accepted for one pairing it accepts every best pairing.
+pub best-is-zero : (n m : ℕ) (s p q u v : List ℕ) → checkAnswer n m s p u v ≡ 0 → n ≤ length q → Best (sheetOf n m s) (at q) → checkAnswer n m s q u v ≡ 0
+best-is-zero n m s p q u v e l b =
+    let c = zero-certificate n m s p u v e in
+    let z : Fits n m s q u v =
+    record {
+      tracks-few = c .0 .tracks-few;
+      reports-few = c .0 .reports-few;
+      cells-long = c .0 .cells-long;
+      pairing-long = l;
+      prices-long = c .0 .prices-long;
+      discounts-long = c .0 .discounts-long;
+    } in
+    certificate-zero n m s q u v z (best-is-accepted (sheetOf n m s) (at p) (at q) (at u) (at v) (c .1) b)
+
+-- All that the answer 0 says of a pairing p of n tracks with m reports.
+pub record Accepted (n m : ℕ) (s p u v : List ℕ) : Type 0 where
   -- no list of report numbers does better
   pub best : BestList (sheetOf n m s) p
-  -- and all that do as well have as many pairs and the same sum of scores
-  pub ties : (q : List ℕ) → Best (sheetOf n m s) (at q) → Agree (sheetOf n m s) (at p) (at q)
+  -- every list that does as well has as many pairs and the same sum of scores, and is accepted with the same numbers
+  pub ties : (q : List ℕ) → BestList (sheetOf n m s) q → Agree (sheetOf n m s) (at p) (at q)
+  pub every : (q : List ℕ) → BestList (sheetOf n m s) q → checkAnswer n m s q u v ≡ 0
   -- no valid pairing leaves fewer tracks out
-  pub misses-fewest : (q : List ℕ) → ValidPairing (sheetOf n m s) (at q) → misses (sheetOf n m s) (at p) ≤ misses (sheetOf n m s) (at q)
+  pub fewest : (q : List ℕ) → ValidPairing (sheetOf n m s) (at q) → misses (sheetOf n m s) (at p) ≤ misses (sheetOf n m s) (at q)
   -- where all tracks can be served at once, all are
   pub served : (q : List ℕ) → ValidPairing (sheetOf n m s) (at q) → ((i : ℕ) → i < n → Paired (at q) i) → (i : ℕ) → i < n → Paired (at p) i
   -- an admissible report of a track left out is some track's
   pub used : (i j : ℕ) → i < n → at p i ≡ none → j < m → Admissible (sheetOf n m s) i j → (k : ℕ) × ((k < n) × (at p k ≡ j))
 
-pub zero-says : (n m : ℕ) (s p u v : List ℕ) → checkAnswer n m s p u v ≡ 0 → Accepted n m s p
+pub zero-says : (n m : ℕ) (s p u v : List ℕ) → checkAnswer n m s p u v ≡ 0 → Accepted n m s p u v
 zero-says n m s p u v e =
     let S : Sheet = sheetOf n m s in
-    let b : Best S (at p) = zero-is-best n m s u v p e in
-    let z = zero-certificate n m s u v p e .0 in
+    let b : Best S (at p) = zero-is-best n m s p u v e in
+    let z = zero-certificate n m s p u v e .0 in
     record {
       best = best-is-list S p (z .pairing-long) b;
-      ties = λ q c. best-agree S (at p) (at q) b c;
-      misses-fewest = λ q. fewest-misses S (at p) (at q) b;
+      ties = λ q c. best-agree S (at p) (at q) b (list-is-best S q c);
+      every = λ q c. best-is-zero n m s p q u v e (c .long) (list-is-best S q c);
+      fewest = λ q. fewest-misses S (at p) (at q) b;
       served = λ q. all-are-served S (at p) (at q) b;
       used = no-report-unused S (at p) b (omega (arith, z .reports-few));
     }
@@ -166,3 +184,8 @@ zero-says n m s p u v e =
 -- there have the same answer.
 pub beyond-is-not-read : (n m : ℕ) (s s′ p p′ u u′ v v′ : List ℕ) → Fits n m s p u v → Fits n m s′ p′ u′ v′ → Alike (n * m) (at s) (at s′) → Alike n (at p) (at p′) → Alike n (at u) (at u′) → Alike m (at v) (at v′) → checkAnswer n m s p u v ≡ checkAnswer n m s′ p′ u′ v′
 beyond-is-not-read = beyond.answer-same
+
+-- So a certificate in lists is one in all lists that are the same up to there.
+pub certificate-alike : (n m : ℕ) (s s′ p p′ u u′ v v′ : List ℕ) → Fits n m s p u v → Fits n m s′ p′ u′ v′ → Alike (n * m) (at s) (at s′) → Alike n (at p) (at p′) → Alike n (at u) (at u′) → Alike m (at v) (at v′) → Certificate (sheetOf n m s) (at p) (at u) (at v) → Certificate (sheetOf n m s′) (at p′) (at u′) (at v′)
+certificate-alike n m s s′ p p′ u u′ v v′ z z′ cs ps us vs c =
+    zero-certificate n m s′ p′ u′ v′ (sym (beyond-is-not-read n m s s′ p p′ u u′ v v′ z z′ cs ps us vs) ∙ certificate-zero n m s p u v z c) .1

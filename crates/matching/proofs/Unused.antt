@@ -7,7 +7,7 @@ use native.Mathlib.Omega.{arith}
 use native.Mathlib.Nat.{le-refl}
 use lib.Dec.{eqb}
 use borrow.Author.Tests.{eq-eqb, ne-eqb, eqb-true, eqb-false, not-true, not-false}
-use Rattle.laws.proofs.Sums.{sum-less}
+use Rattle.laws.proofs.Sums.{bit-small, sum-less}
 use Rattle.laws.proofs.Tests.{each-or-one, each-at}
 use Rattle.matching.specs.Pairing.{none, Sheet, Admissible, ValidPairing, pairs, Best}
 
@@ -43,11 +43,7 @@ module _ (S : Sheet) (P : ℕ → ℕ) (i j : ℕ) (p : ValidPairing S P) (li : 
   with-more e d = sum-less (S .tracks) i _ _ li (rw (eq-eqb i i refl, eq-eqb (P i) none e, ne-eqb j none d) (omega arith)) (λ k l. others k (eqb k i) refl)
     where
       others : (k : ℕ) (b : Bool) → eqb k i ≡ b → cond (eqb (P k) none) 0 1 ≤ cond (eqb (cond b j (P k)) none) 0 1
-      others k true eb = rw (ne-eqb j none d) (one (eqb (P k) none))
-        where
-          one : (t : Bool) → cond t 0 1 ≤ 1
-          one true = omega arith
-          one false = omega arith
+      others k true eb = rw (ne-eqb j none d) (bit-small (eqb (P k) none))
       others k false eb = le-refl _
 
 -- no track has report j, or one has

@@ -23,6 +23,9 @@ pub record Sizes (n m cells pairing prices discounts : ℕ) : Type 0 where
   pub prices-long : n ≤ prices
   pub discounts-long : m ≤ discounts
 
+abbrev pub Fits : (n m : ℕ) (cells pairing prices discounts : List ℕ) → Type 0
+Fits n m cells pairing prices discounts = Sizes n m (length cells) (length pairing) (length prices) (length discounts)
+
 -- 22: each of the first k cells is none or a score
 abbrev pub cellOk : ℕ → Bool
 cellOk c = eqb c none || ltb c scoreEnd
@@ -41,7 +44,7 @@ pairingOk S P = each (S .tracks) (entryOk S P)
 unfoldable pub numbersOk : ℕ → (ℕ → ℕ) → Bool
 numbersOk n f = each n (λ i. leb (f i) leftOut)
 
--- 25: the price is at most the score and the discount together
+-- 25: the price less the discount is not above the score of an admissible pair, said with the discount on the other side
 abbrev pub pairOk : (price score discount : ℕ) → Bool
 pairOk price score discount = eqb score none || leb price (score + discount)
 
@@ -51,7 +54,7 @@ rowOk S prices discounts i = each (S .reports) (λ j. pairOk (prices i) (S .cell
 unfoldable pub scoresOk : Sheet → (prices discounts : ℕ → ℕ) → Bool
 scoresOk S prices discounts = each (S .tracks) (rowOk S prices discounts)
 
--- 26: the prices come to the pairing's total and the discounts together
+-- 26: all prices less all discounts equal the pairing's total
 unfoldable pub totalsOk : Sheet → (P prices discounts : ℕ → ℕ) → Bool
 totalsOk S P prices discounts = eqb (Sum (S .tracks) prices) (total S P + Sum (S .reports) discounts)
 

@@ -83,13 +83,14 @@ pub record Best (S : Sheet) (P : ℕ → ℕ) : Type 0 where
 
 -- ---- what shows that a pairing is best
 
--- a price a track and a discount a report, each in range; no price less discount is above the score of an admissible pair
+-- a price a track and a discount a report, each in range; the price less the discount never exceeds the score of an admissible pair
+-- (said with the discount on the other side, as is the sum below: no number here is negative)
 pub record FairPrices (S : Sheet) (prices discounts : ℕ → ℕ) : Type 0 where
   pub price : (i : ℕ) → i < S .tracks → prices i ≤ leftOut
   pub discount : (j : ℕ) → j < S .reports → discounts j ≤ leftOut
   pub under : (i j : ℕ) → i < S .tracks → j < S .reports → Admissible S i j → prices i ≤ S .cell i j + discounts j
 
--- and all prices less all discounts are the pairing's total
+-- and all prices less all discounts equal the pairing's total
 pub record Certificate (S : Sheet) (P prices discounts : ℕ → ℕ) : Type 0 where
   pub range : InRange S
   pub valid : ValidPairing S P

@@ -1,13 +1,13 @@
-// The referee: checks that a pairing of tracks with reports is best, by prices and discounts that show it. It depends on no engine.
+// The referee: checks that a pairing of tracks with reports is best, by prices and discounts that show it. It knows of no engine.
 ghost use mathlib.Core.Path.{_≡_};
 ghost use mathlib.Core.Bool.{true, cond, not, _&&_};
-ghost use Prim.Native.Nat.{ℕ, _+_, _*_, _≤_, _<_};
+ghost use Prim.Native.Nat.{_+_, _*_, _≤_, _<_};
 ghost use lib.Dec.{eqb};
 ghost use lib.ListN.{length};
 ghost use Rattle.laws.specs.Sums.{Sum};
 ghost use Rattle.laws.specs.Tests.{each};
-ghost use Rattle.matching.specs.Pairing.{none, leftOut, Paired, scoreOr, total, at, sheetOf};
-ghost use Rattle.matching.specs.Answer.{sizesOk, Sizes, cellOk, cellsOk, entryOk, pairingOk, numbersOk, pairOk, scoresOk, totalsOk, sheetRefusal, checkAnswer};
+ghost use Rattle.matching.specs.Pairing.{leftOut, Paired, scoreOr, total, at, sheetOf};
+ghost use Rattle.matching.specs.Answer.{sizesOk, Sizes, cellOk, entryOk, pairingOk, numbersOk, pairOk, scoresOk, totalsOk, sheetRefusal, checkAnswer};
 
 // In a cell: the pair is not admissible. In a pairing: the track is left out.
 pub const NONE: u32 = 4294967295;
@@ -15,10 +15,12 @@ pub const NONE: u32 = 4294967295;
 pub const SCORE_END: u32 = 2097152;
 // What a track left out counts in a total; no price and no discount is above it.
 pub const LEFT_OUT: u32 = 268435456;
-
+// A sheet has no more tracks than this,
 pub const MOST_TRACKS: usize = 100;
-
+// and no more reports than this.
 pub const MOST_REPORTS: usize = 100;
+// The check's answer where it finds no fault.
+pub const ACCEPTED: u8 = 0;
 
 // Few enough tracks and reports, and long enough lists, by their lengths.
 fn sizes_ok(
@@ -76,7 +78,7 @@ fn strays(sheet: &[u32], k: usize) -> u32
     count
 }
 
-// 21 or 22, or 0 for a sheet that can be paired and judged. The middle three are the lengths of the lists beside it.
+// 21 or 22, or 0 for a sheet that can be paired and judged. The last three are the lengths of the lists beside it.
 pub fn sheet_refusal(
     tracks: usize,
     reports: usize,
@@ -170,6 +172,17 @@ fn numbers_ok(n: usize, numbers: &[u32]) -> bool
         i += 1;
     }
     true
+}
+
+// All prices and all discounts are.
+fn all_numbers_ok(tracks: usize, reports: usize, prices: &[u32], discounts: &[u32]) -> bool
+    requires { ⌜ (tracks ≤ length (now prices)) × (reports ≤ length (now discounts)) ⌝ }
+    ensures { λ r. ⌜ r ≡ (numbersOk tracks (at (now (prices .entry))) && numbersOk reports (at (now (discounts .entry)))) ⌝ }
+{
+    if !numbers_ok(tracks, prices) {
+        return false;
+    }
+    numbers_ok(reports, discounts)
 }
 
 // The pair is not admissible, or the price less the discount is not above its score.
@@ -303,10 +316,7 @@ pub fn check_pairing(
     if !pairing_ok(tracks, reports, sheet, pairing) {
         return 23;
     }
-    if !numbers_ok(tracks, prices) {
-        return 24;
-    }
-    if !numbers_ok(reports, discounts) {
+    if !all_numbers_ok(tracks, reports, prices, discounts) {
         return 24;
     }
     if !scores_ok(tracks, reports, sheet, prices, discounts) {
@@ -315,5 +325,5 @@ pub fn check_pairing(
     if !totals_ok(tracks, reports, sheet, pairing, prices, discounts) {
         return 26;
     }
-    0
+    ACCEPTED
 }

@@ -26,8 +26,10 @@ returns-2 c =
       sym (c .before .pairing-ok .ensures) ∙ not-true _ (c .if2 .taken),
     )
 
-numbers-ok-requires : tie.Need-numbers-ok-requires
-numbers-ok-requires c κs = facts.passed-sizes _ _ _ _ _ _ (sym (c .before .before .before .sheet-refusal .ensures) ∙ c .before .before .if1 .left) .prices-long
+all-numbers-ok-requires : tie.Need-all-numbers-ok-requires
+all-numbers-ok-requires c κs =
+    let z = facts.passed-sizes _ _ _ _ _ _ (sym (c .before .before .before .sheet-refusal .ensures) ∙ c .before .before .if1 .left) in
+    (z .prices-long, z .discounts-long)
 
 returns-3 : tie.Need-returns-3
 unfolding checkAnswer
@@ -35,11 +37,13 @@ returns-3 c =
     rw (
       facts.refusal-passed _ _ _ _ _ _ (sym (c .before .before .before .before .before .sheet-refusal .ensures) ∙ c .before .before .before .before .if1 .left),
       sym (c .before .before .before .pairing-ok .ensures) ∙ not-false _ (c .before .before .if2 .left),
-      sym (c .before .numbers-ok .ensures) ∙ not-true _ (c .if3 .taken),
+      sym (c .before .all-numbers-ok .ensures) ∙ not-true _ (c .if3 .taken),
     )
 
-numbers-ok-requires-2 : tie.Need-numbers-ok-requires-2
-numbers-ok-requires-2 c κs = facts.passed-sizes _ _ _ _ _ _ (sym (c .before .before .before .before .before .sheet-refusal .ensures) ∙ c .before .before .before .before .if1 .left) .discounts-long
+scores-ok-requires : tie.Need-scores-ok-requires
+scores-ok-requires c κs =
+    let z = facts.passed-sizes _ _ _ _ _ _ (sym (c .before .before .before .before .before .sheet-refusal .ensures) ∙ c .before .before .before .before .if1 .left) in
+    (z .cells-long, (z .prices-long, z .discounts-long))
 
 returns-4 : tie.Need-returns-4
 unfolding checkAnswer
@@ -47,14 +51,12 @@ returns-4 c =
     rw (
       facts.refusal-passed _ _ _ _ _ _ (sym (c .before .before .before .before .before .before .before .sheet-refusal .ensures) ∙ c .before .before .before .before .before .before .if1 .left),
       sym (c .before .before .before .before .before .pairing-ok .ensures) ∙ not-false _ (c .before .before .before .before .if2 .left),
-      sym (c .before .before .before .numbers-ok .ensures) ∙ not-false _ (c .before .before .if3 .left),
-      sym (c .before .numbers-ok2 .ensures) ∙ not-true _ (c .if4 .taken),
+      sym (c .before .before .before .all-numbers-ok .ensures) ∙ not-false _ (c .before .before .if3 .left),
+      sym (c .before .scores-ok .ensures) ∙ not-true _ (c .if4 .taken),
     )
 
-scores-ok-requires : tie.Need-scores-ok-requires
-scores-ok-requires c κs =
-    let z = facts.passed-sizes _ _ _ _ _ _ (sym (c .before .before .before .before .before .before .before .sheet-refusal .ensures) ∙ c .before .before .before .before .before .before .if1 .left) in
-    (z .cells-long, (z .prices-long, z .discounts-long))
+totals-ok-requires : tie.Need-totals-ok-requires
+totals-ok-requires c κs = (facts.passed-sizes _ _ _ _ _ _ (sym (c .before .before .before .before .before .before .before .sheet-refusal .ensures) ∙ c .before .before .before .before .before .before .if1 .left), sym (c .before .before .before .before .before .pairing-ok .ensures) ∙ not-false _ (c .before .before .before .before .if2 .left))
 
 returns-5 : tie.Need-returns-5
 unfolding checkAnswer
@@ -62,36 +64,20 @@ returns-5 c =
     rw (
       facts.refusal-passed _ _ _ _ _ _ (sym (c .before .before .before .before .before .before .before .before .before .sheet-refusal .ensures) ∙ c .before .before .before .before .before .before .before .before .if1 .left),
       sym (c .before .before .before .before .before .before .before .pairing-ok .ensures) ∙ not-false _ (c .before .before .before .before .before .before .if2 .left),
-      sym (c .before .before .before .before .before .numbers-ok .ensures) ∙ not-false _ (c .before .before .before .before .if3 .left),
-      sym (c .before .before .before .numbers-ok2 .ensures) ∙ not-false _ (c .before .before .if4 .left),
-      sym (c .before .scores-ok .ensures) ∙ not-true _ (c .if5 .taken),
+      sym (c .before .before .before .before .before .all-numbers-ok .ensures) ∙ not-false _ (c .before .before .before .before .if3 .left),
+      sym (c .before .before .before .scores-ok .ensures) ∙ not-false _ (c .before .before .if4 .left),
+      sym (c .before .totals-ok .ensures) ∙ not-true _ (c .if5 .taken),
     )
-
-totals-ok-requires : tie.Need-totals-ok-requires
-totals-ok-requires c κs = (facts.passed-sizes _ _ _ _ _ _ (sym (c .before .before .before .before .before .before .before .before .before .sheet-refusal .ensures) ∙ c .before .before .before .before .before .before .before .before .if1 .left), sym (c .before .before .before .before .before .before .before .pairing-ok .ensures) ∙ not-false _ (c .before .before .before .before .before .before .if2 .left))
 
 returns-6 : tie.Need-returns-6
 unfolding checkAnswer
 returns-6 c =
     rw (
-      facts.refusal-passed _ _ _ _ _ _ (sym (c .before .before .before .before .before .before .before .before .before .before .before .sheet-refusal .ensures) ∙ c .before .before .before .before .before .before .before .before .before .before .if1 .left),
-      sym (c .before .before .before .before .before .before .before .before .before .pairing-ok .ensures) ∙ not-false _ (c .before .before .before .before .before .before .before .before .if2 .left),
-      sym (c .before .before .before .before .before .before .before .numbers-ok .ensures) ∙ not-false _ (c .before .before .before .before .before .before .if3 .left),
-      sym (c .before .before .before .before .before .numbers-ok2 .ensures) ∙ not-false _ (c .before .before .before .before .if4 .left),
-      sym (c .before .before .before .scores-ok .ensures) ∙ not-false _ (c .before .before .if5 .left),
-      sym (c .before .totals-ok .ensures) ∙ not-true _ (c .if6 .taken),
-    )
-
-returns-7 : tie.Need-returns-7
-unfolding checkAnswer
-returns-7 c =
-    rw (
-      facts.refusal-passed _ _ _ _ _ _ (sym (c .before .before .before .before .before .before .before .before .before .before .before .sheet-refusal .ensures) ∙ c .before .before .before .before .before .before .before .before .before .before .if1 .left),
-      sym (c .before .before .before .before .before .before .before .before .before .pairing-ok .ensures) ∙ not-false _ (c .before .before .before .before .before .before .before .before .if2 .left),
-      sym (c .before .before .before .before .before .before .before .numbers-ok .ensures) ∙ not-false _ (c .before .before .before .before .before .before .if3 .left),
-      sym (c .before .before .before .before .before .numbers-ok2 .ensures) ∙ not-false _ (c .before .before .before .before .if4 .left),
-      sym (c .before .before .before .scores-ok .ensures) ∙ not-false _ (c .before .before .if5 .left),
-      sym (c .before .totals-ok .ensures) ∙ not-false _ (c .if6 .left),
+      facts.refusal-passed _ _ _ _ _ _ (sym (c .before .before .before .before .before .before .before .before .before .sheet-refusal .ensures) ∙ c .before .before .before .before .before .before .before .before .if1 .left),
+      sym (c .before .before .before .before .before .before .before .pairing-ok .ensures) ∙ not-false _ (c .before .before .before .before .before .before .if2 .left),
+      sym (c .before .before .before .before .before .all-numbers-ok .ensures) ∙ not-false _ (c .before .before .before .before .if3 .left),
+      sym (c .before .before .before .scores-ok .ensures) ∙ not-false _ (c .before .before .if4 .left),
+      sym (c .before .totals-ok .ensures) ∙ not-false _ (c .if5 .left),
     )
 
 pub check-pairing-spec : {M : Type 1} → statement M
@@ -102,12 +88,10 @@ check-pairing-spec =
     returns
     pairing-ok-requires
     returns-2
-    numbers-ok-requires
+    all-numbers-ok-requires
     returns-3
-    numbers-ok-requires-2
-    returns-4
     scores-ok-requires
-    returns-5
+    returns-4
     totals-ok-requires
-    returns-6
-    returns-7)
+    returns-5
+    returns-6)
