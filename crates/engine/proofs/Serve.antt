@@ -9,13 +9,12 @@ use lib.Dec.{eqb, ltb}
 use lib.ListN.{length, take, drop, length-append, List·getD-append}
 use lib.Seq.{drop-at, getD-take, length-take-le}
 use borrow.Author.Tests.{ne-eqb, ltb-true}
-use Rattle.laws.specs.Tests.{refuse}
 use Rattle.laws.proofs.Stores.{same-or}
-use Rattle.laws.proofs.Tests.{or-second, each-at, refuse-none}
+use Rattle.laws.proofs.Tests.{or-second, each-at}
 use Rattle.matching.specs.Pairing.{none, scoreEnd, at}
-use Rattle.matching.specs.Answer.{sizesOk, Sizes, cellOk, cellsOk, sheetRefusal, checkAnswer}
-use Rattle.matching.proofs.Facts.{passed-sizes}
-use Rattle.matching.proofs.Theorems.{Fits, certificate-zero, beyond-is-not-read}
+use Rattle.matching.specs.Answer.{Sizes, Fits, cellOk, cellsOk, checkAnswer}
+use Rattle.matching.proofs.Facts.{cells-ok}
+use Rattle.matching.proofs.Theorems.{not-refused, certificate-zero, beyond-is-not-read}
 use Rattle.passes.specs.Cells.{IsCell}
 use Rattle.engine.specs.declared.Paired.the-variants.{Refused, Done}
 use Rattle.engine.specs.Call.{refusalOf, answerOf, Served, PairsSheet}
@@ -34,14 +33,13 @@ module _ (n m : ℕ) (s p u v : List ℕ) where
 
   module _ (e : refusalOf n m s p u v ≡ 0) where
     pub sizes : Sizes n m (length s) (length p) (length u) (length v)
-    sizes = passed-sizes n m s (length p) (length u) (length v) e
+    sizes = not-refused n m s (length p) (length u) (length v) e .0
 
     cells : (k : ℕ) → k < n * m → IsCell (at s k)
-    unfolding sheetRefusal cellsOk
+    unfolding cellsOk
     cells k h =
-        let a = refuse-none 20 (sizesOk n m (length s) (length p) (length u) (length v)) (refuse 22 (cellsOk (n * m) s) 0) e in
-        let b = refuse-none 21 (cellsOk (n * m) s) 0 (a .1) in
-        is-cell (at s k) (each-at (λ i. cellOk (at s i)) (n * m) k (b .0) h)
+        let r = not-refused n m s (length p) (length u) (length v) e .1 in
+        is-cell (at s k) (each-at (λ i. cellOk (at s i)) (n * m) k (cells-ok n m s r) h)
 
     abbrev own : List ℕ
     own = take (n * m) s
@@ -98,7 +96,7 @@ module _ (n m : ℕ) (s p u v : List ℕ) where
           sym
           (beyond-is-not-read n m own s P (P ++ drop n p) U (U ++ drop n u) D (D ++ drop m v) fits fits-whole own-at
           (first n P (drop n p) (C .lp)) (first n U (drop n u) (C .lu)) (first m D (drop m v) (C .lw)))
-          ∙ certificate-zero n m own U D P fits (C .shown)
+          ∙ certificate-zero n m own P U D fits (C .shown)
 
       served : Served n m s p u v (P ++ drop n p) (U ++ drop n u) (D ++ drop m v)
       served =

@@ -5,22 +5,26 @@ use mathlib.Core.List.{List}
 use native.Mathlib.Omega.{arith}
 use lib.ListN.{length, drop, length-drop}
 use Rattle.matching.specs.Pairing.{Best, at, sheetOf}
-use Rattle.matching.specs.Answer.{checkAnswer}
-use Rattle.matching.proofs.Theorems.{Agree, Fits, zero-certificate, zero-is-best, best-is-zero, best-agree}
+use Rattle.matching.specs.Answer.{Fits, checkAnswer}
+use Rattle.matching.proofs.Theorems.{Agree, Accepted, zero-certificate, zero-is-best, best-is-zero, best-agree, zero-says}
 use Rattle.engine.specs.declared.Paired.{Paired}
 use Rattle.engine.specs.Call.{refusalOf, Served, PairsSheet}
 
 module _ {n m : ℕ} {s p u v p′ u′ v′ : List ℕ} (R : Served n m s p u v p′ u′ v′) where
   -- The pairing that is written is best.
   pub written-is-best : Best (sheetOf n m s) (at p′)
-  written-is-best = zero-is-best n m s u′ v′ p′ (R .accepted)
+  written-is-best = zero-is-best n m s p′ u′ v′ (R .accepted)
 
   -- With the prices and discounts that are written, the check accepts every best pairing of the sheet.
   pub accepts-every-best : (q : List ℕ) → n ≤ length q → Best (sheetOf n m s) (at q) → checkAnswer n m s q u′ v′ ≡ 0
-  accepts-every-best q l b = best-is-zero n m s u′ v′ p′ q (R .accepted) l b
+  accepts-every-best q l b = best-is-zero n m s p′ q u′ v′ (R .accepted) l b
+
+  -- All that the check's 0 says, in one: best, as good as every best pairing, fewest misses, no report unused that a missed track could use.
+  pub written-says : Accepted n m s p′ u′ v′
+  written-says = zero-says n m s p′ u′ v′ (R .accepted)
 
   fits : Fits n m s p′ u′ v′
-  fits = zero-certificate n m s u′ v′ p′ (R .accepted) .0
+  fits = zero-certificate n m s p′ u′ v′ (R .accepted) .0
 
 -- Two results of one call: the same answer; refused, the same lists; served, the same number of pairs and the same sum of scores, and every
 -- entry beyond the first. Which best pairing, and which prices, is all that is left open.
