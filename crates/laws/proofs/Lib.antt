@@ -7,3 +7,5 @@ pub mod InPlace
 pub mod Fold
 pub mod Listed
 pub mod Sizes
+pub mod Stores
+pub mod Parts

@@ -1,6 +1,6 @@
 -- Laws of `Sum`. Assumes nothing.
 use Prim.Native.Nat.{ℕ, zero, suc, _+_, _*_, _≤_, _<_, zero-le}
-use mathlib.Core.Path.{_≡_, refl, sym, _∙_}
+use mathlib.Core.Path.{_≡_, refl, ap, sym, _∙_}
 use mathlib.Core.Bool.{Bool, true, false, cond, _&&_, and-true, and-false}
 use mathlib.Core.Logic.{⊎-elim}
 use native.Mathlib.Omega.{arith}
@@ -66,6 +66,15 @@ sum-zero (suc n) f h =
     let a : Sum n f ≡ 0 = sum-zero n f (λ i l. h i (le-step l)) in
     let b : f n ≡ 0 = h n (lt-suc-self n) in
     omega arith
+
+-- only the term at k counts
+pub sum-one : (n k : ℕ) (f : ℕ → ℕ) → k < n → ((i : ℕ) → i < n → (i ≡ k → ⊥) → f i ≡ 0) → Sum n f ≡ f k
+unfolding Sum
+sum-one zero k f l h = absurd (not-suc-le-zero l)
+sum-one (suc n) k f l h =
+    ⊎-elim (λ e. omega (arith, ap f e, sum-zero n f (λ i g. h i (omega arith) (λ q. omega arith))))
+    (λ g. omega (arith, sum-one n k f g (λ i x. h i (omega arith)), h n (omega arith) (λ q. omega arith)))
+    (eq-or-lt-of-le (le-of-suc-le-suc l))
 
 -- at most one i has P i ≡ j
 pub at-most-one : (n c j : ℕ) (P : ℕ → ℕ) → ((i k : ℕ) → i < n → k < n → P i ≡ j → P k ≡ j → i ≡ k) → Sum n (λ i. cond (eqb (P i) j) c 0) ≤ c

@@ -1,0 +1,155 @@
+-- The start: a row's price is set, and a free tight column given to it; and the cases of a visit.
+use Prim.Native.Nat.{ℕ, _+_, _*_, _≤_, _<_}
+use mathlib.Core.Path.{_≡_, refl, ap, sym, subst, _∙_}
+use mathlib.Core.List.{List}
+use mathlib.Core.Logic.{inl, inr, ⊎-elim}
+use native.Mathlib.Omega.{arith}
+use lib.ListN.{length, set, length-set}
+use lib.Seq.{getD-set-same, getD-set-other}
+use Rattle.matching.specs.Pairing.{none, leftOut, at}
+use Rattle.passes.specs.Cells.{far, IsCell, mostColumns}
+use Rattle.paths.specs.State.{cell, Shape, Own, Match, Good, Done, Ready, Inserted}
+use Rattle.engine.specs.State.{Fresh, Claimed, Visit}
+use Rattle.laws.proofs.Stores.{same-or}
+use Rattle.paths.proofs.Swap.{refit, shape'}
+use Rattle.paths.proofs.Rows.{row, row-length, row-at, row-end}
+
+pub good-len : (cells : List ℕ) (m n : ℕ) (pairing owner prices discounts : List ℕ) → Good cells m n pairing owner prices discounts → Good cells m (length prices) pairing owner prices discounts
+good-len cells m n pairing owner prices discounts G = rw (G .shape .lu) G
+
+module _ (cells : List ℕ) (m n track : ℕ) (pairing owner prices discounts : List ℕ) (G : Good cells m n pairing owner prices discounts) (rr : track < n) (rp : at pairing track ≡ none)
+    (v : ℕ) (vM : v ≤ leftOut) (vc : (j : ℕ) → j < m → v ≤ cell cells m track j) where
+  abbrev prices1 : List ℕ
+  prices1 = set prices track v
+
+  u1-r : at prices1 track ≡ v
+  u1-r = getD-set-same prices track v 0 (omega (arith, G .shape .lu))
+
+  u1-o : (i : ℕ) → (i ≡ track → ⊥) → at prices1 i ≡ at prices i
+  u1-o i d = getD-set-other prices track i v 0 d
+
+  own1 : (j i : ℕ) → j < m → Own cells m n pairing prices discounts j i → Own cells m n pairing prices1 discounts j i
+  own1 j i h o = record {
+    there = o .there;
+    back = o .back;
+    adm = o .adm;
+    tight = u1-o i (λ q. omega (arith, o .back, ap (at pairing) q, G .shape .mm)) ∙ o .tight;
+  }
+
+  pub priced : Good cells m n pairing owner prices1 discounts
+  priced = record {
+    shape = record { lC = G .shape .lC; lp = G .shape .lp; lo = G .shape .lo; lu = simp length-set (G .shape .lu); lw = G .shape .lw; nn = G .shape .nn; mm = G .shape .mm; cs = G .shape .cs };
+    P = record {
+      feas = λ i j h g a. ⊎-elim (λ q. rw q (omega (arith, u1-r, vc j g))) (λ d. omega (arith, u1-o i d, G .P .feas i j h g a)) (same-or i track);
+      um = λ i h. ⊎-elim (λ q. rw q (omega (arith, u1-r))) (λ d. omega (arith, u1-o i d, G .P .um i h)) (same-or i track);
+      wm = G .P .wm;
+    };
+    M = record {
+      owned = λ j h d. ⊎-elim inl (λ o. inr (own1 j (at owner j) h o)) (G .M .owned j h d);
+      paired = G .M .paired;
+    };
+  }
+
+  module _ (j : ℕ) (jm : j < m) (free : at owner j ≡ none) (low : v < leftOut) (eq : cell cells m track j ≡ v) where
+    w0 : at discounts j ≡ 0
+    w0 = ⊎-elim (λ a. a .1) (λ o. absurd (omega (arith, o .there, G .shape .nn))) (G .M .owned j jm (λ e. omega (arith, G .shape .mm)))
+
+    hole : Match cells m n pairing owner prices1 discounts j
+    hole = record {
+      owned = λ k h d. priced .M .owned k h (λ e. omega (arith, G .shape .mm));
+      paired = λ i h. ⊎-elim inl (λ a. inr (a .0, ((λ e. omega (arith, sym (a .1 .1) ∙ ap (at owner) e ∙ free, G .shape .nn)), a .1 .1))) (G .M .paired i h);
+    }
+
+    fits : cell cells m track j < far
+    fits = omega arith
+
+    tight : at prices1 track ≡ cell cells m track j + at discounts j
+    tight = omega (arith, u1-r, w0)
+
+    pub given : Good cells m n (set pairing track j) (set owner j track) prices1 discounts
+    given = record {
+      shape = shape' cells m n prices1 discounts pairing owner (priced .shape) j jm hole track rr fits tight;
+      P = priced .P;
+      M = (rw rp at (refit cells m n prices1 discounts pairing owner (priced .shape) j jm hole track rr fits tight));
+    }
+
+-- the part of the sheet that claim reads
+module _ (cells : List ℕ) (m track : ℕ) (pairing owner prices discounts : List ℕ) (F : Fresh cells m track pairing owner prices discounts) (x : ℕ) (ex : x ≡ track) where
+  pub claim-cells : (length (row cells m x) ≤ mostColumns) × ((k : ℕ) → k < length (row cells m x) → IsCell (at (row cells m x) k))
+  claim-cells =
+      let h : x < length prices = omega (arith, F .rr) in
+      let l = F .good .shape .lC in
+      let e = row-length cells m (length prices) x h l in (
+        omega (arith, e, F .good .shape .mm),
+        λ k g.
+            let q : k < m = omega (arith, e) in
+            rw (row-at cells m (length prices) x h l k q) (F .good .shape .cs (x * m + k) (omega (arith, row-end cells m (length prices) x h l))),
+      )
+
+-- what claim shows, over the part of the sheet that it reads
+module _ (cells : List ℕ) (m track : ℕ) (pairing owner prices discounts : List ℕ) (F : Fresh cells m track pairing owner prices discounts) (x : ℕ) (ex : x ≡ track) (v : ℕ)
+    (vM : v ≤ leftOut) (vc : (k : ℕ) → k < length (row cells m x) → v ≤ at (row cells m x) k) where
+  abbrev n : ℕ
+  n = length prices
+
+  plen : length (row cells m x) ≡ m
+  plen = row-length cells m n x (omega (arith, F .rr)) (F .good .shape .lC)
+
+  pat : (k : ℕ) → k < m → at (row cells m x) k ≡ cell cells m track k
+  pat k h = row-at cells m n x (omega (arith, F .rr)) (F .good .shape .lC) k h ∙ rw ex refl
+
+  vr : (j : ℕ) → j < m → v ≤ cell cells m track j
+  vr j h = omega (arith, vc j (omega (arith, plen)), pat j h)
+
+  pub claimed-price : Claimed cells m n track pairing pairing owner (set prices x v) discounts
+  claimed-price = record {
+    good = rw ex (priced cells m n track pairing owner prices discounts (F .good) (F .rr) (F .rp) v vM vr);
+    others = λ i d. refl;
+  }
+
+  pub claimed-pair : (j : ℕ) → j < m → v < leftOut → at (row cells m x) j ≡ v → at owner j ≡ none
+      → Claimed cells m n track pairing (set pairing x j) (set owner j track) (set prices x v) discounts
+  claimed-pair j h l e f = record {
+    good = rw ex (given cells m n track pairing owner prices discounts (F .good) (F .rr) (F .rp) v vM vr j h f l (sym (pat j h) ∙ e));
+    others = λ i d. getD-set-other pairing x i j 0 (λ q. d (q ∙ ex));
+  }
+
+  pub claim-len : (length owner ≡ length (row cells m x)) × (m ≡ length (row cells m x))
+  claim-len = (F .good .shape .lo ∙ sym plen, sym plen)
+
+-- a visit where nothing is to do, and where the track is to be inserted
+module _ (cells : List ℕ) (m track : ℕ) (pairing owner prices discounts dist par shut : List ℕ) (Vs : Visit cells m track pairing owner prices discounts dist par shut) (x : ℕ) (ex : x ≡ track) where
+  same : Done m pairing prices track → Inserted cells m (length prices) track pairing prices pairing owner prices discounts
+  same d = record { good = Vs .good; done = λ i h a. a; done-r = d }
+
+  pub visit-pair : (at pairing x ≡ none → ⊥) → Inserted cells m (length prices) track pairing prices pairing owner prices discounts
+  visit-pair d = same (⊎-elim (λ z. absurd (d (ap (at pairing) ex ∙ z))) (λ z. inl (z .0)) (Vs .good .M .paired track (Vs .rr)))
+
+  pub visit-left : leftOut ≤ at prices x → Inserted cells m (length prices) track pairing prices pairing owner prices discounts
+  visit-left l = same (inr (omega (arith, ap (at prices) ex, Vs .good .P .um track (Vs .rr))))
+
+  pub visit-ready : at pairing x ≡ none → Ready cells m track pairing owner prices discounts dist par shut
+  visit-ready z = record {
+    shape = Vs .good .shape;
+    P = Vs .good .P;
+    M = Vs .good .M;
+    rr = Vs .rr;
+    rp = sym (ap (at pairing) ex) ∙ z;
+    ld = Vs .ld;
+    lpar = Vs .lpar;
+    ls = Vs .ls;
+  }
+
+-- all filled
+pub blank : (cells : List ℕ) (m n : ℕ) (pairing owner prices discounts : List ℕ) → Shape cells m n pairing owner prices discounts
+    → ((i : ℕ) → i < n → at pairing i ≡ none) → ((j : ℕ) → j < m → at owner j ≡ none)
+    → ((i : ℕ) → i < n → at prices i ≡ 0) → ((j : ℕ) → j < m → at discounts j ≡ 0) → Good cells m n pairing owner prices discounts
+blank cells m n pairing owner prices discounts S p o v z = record {
+  shape = S;
+  P = record { feas = λ i j h g a. omega (arith, v i h); um = λ i h. omega (arith, v i h); wm = λ j h. omega (arith, z j h) };
+  M = record { owned = λ j h d. inl (o j h, z j h); paired = λ i h. inl (p i h) };
+}
+
+-- Good with another name for the number of tracks
+pub good-at : (cells : List ℕ) (m n k : ℕ) (pairing owner prices discounts : List ℕ) → k ≡ n → Good cells m k pairing owner prices discounts → Good cells m n pairing owner prices discounts
+good-at cells m n k pairing owner prices discounts e G = subst (λ (x : ℕ). Good cells m x pairing owner prices discounts) e G

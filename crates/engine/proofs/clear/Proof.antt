@@ -1,0 +1,55 @@
+use Rattle.engine.proofs.Begin.{blank}
+use mathlib.Core.Path.{_∙_}
+use native.Mathlib.Omega.{arith}
+use borrow.Author.Needs.{needs}
+use Rattle.engine.proofs.clear.Statement.{statement}
+use Rattle.engine.proofs.clear.Tie as tie
+
+fill-requires : tie.Need-fill-requires
+fill-requires c κs = search needs
+
+fill-requires-2 : tie.Need-fill-requires-2
+fill-requires-2 c κs = search needs
+
+fill-requires-3 : tie.Need-fill-requires-3
+fill-requires-3 c κs = search needs
+
+fill-requires-4 : tie.Need-fill-requires-4
+fill-requires-4 c κs = search needs
+
+same-length : tie.Need-same-length
+same-length c = search needs
+
+same-length-2 : tie.Need-same-length-2
+same-length-2 c = search needs
+
+same-length-3 : tie.Need-same-length-3
+same-length-3 c = search needs
+
+same-length-4 : tie.Need-same-length-4
+same-length-4 c = search needs
+
+returns : tie.Need-returns
+returns c = let S = c .before .before .before .before .before .before .before .before .before .before .before .before .before .before .before .before .before .before .before .before .before .pre in (
+  blank _ _ _ _ _ _ _
+      (record { lC = S .lC; lp = c .before .before .before .before .before .before .before .before .before .before .before .before .before .before .fill .ensures .0 ∙ S .lp; lo = c .before .before .before .before .before .before .before .before .before .before .fill2 .ensures .0 ∙ S .lo; lu = c .before .before .before .before .before .before .fill3 .ensures .0; lw = c .before .before .fill4 .ensures .0 ∙ S .lw; nn = S .nn; mm = S .mm; cs = S .cs })
+      (λ i h. c .before .before .before .before .before .before .before .before .before .before .before .before .before .before .fill .ensures .1 i (omega (arith, S .lp)))
+      (λ j h. c .before .before .before .before .before .before .before .before .before .before .fill2 .ensures .1 j (omega (arith, S .lo)))
+      (λ i h. c .before .before .before .before .before .before .fill3 .ensures .1 i h)
+      (λ j h. c .before .before .fill4 .ensures .1 j (omega (arith, S .lw))),
+  λ i h. c .before .before .before .before .before .before .before .before .before .before .before .before .before .before .fill .ensures .1 i (omega (arith, S .lp)),
+)
+
+pub clear-spec : {M : Type 1} → statement M
+clear-spec =
+    tie.close
+    (tie.spec
+    fill-requires
+    fill-requires-2
+    fill-requires-3
+    fill-requires-4
+    same-length
+    same-length-2
+    same-length-3
+    same-length-4
+    returns)

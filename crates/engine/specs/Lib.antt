@@ -1,0 +1,3 @@
+-- What the pairing call promises, and the state of the engine behind it.
+pub mod Call
+pub mod State

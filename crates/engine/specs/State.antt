@@ -1,0 +1,52 @@
+-- The engine's stages: what the start, a visit and the whole ask and give. Assumes nothing.
+use Prim.Native.Nat.{ℕ, _*_, _≤_, _<_}
+use mathlib.Core.Path.{_≡_}
+use mathlib.Core.List.{List}
+use lib.ListN.{length}
+use Rattle.matching.specs.Pairing.{none, mostTracks, Certificate, at, sheetOf}
+use Rattle.passes.specs.Cells.{IsCell}
+use Rattle.paths.specs.State.{widest, cell, Shape, Good, Done}
+
+-- a track that is in no pair, at the start
+pub record Fresh (cells : List ℕ) (m track : ℕ) (pairing owner prices discounts : List ℕ) : Type 0 where
+  pub good : Good cells m (length prices) pairing owner prices discounts
+  pub rr : track < length prices
+  pub rp : at pairing track ≡ none
+
+pub record Claimed (cells : List ℕ) (m n track : ℕ) (pairing pairing' owner' prices' discounts : List ℕ) : Type 0 where
+  pub good : Good cells m n pairing' owner' prices' discounts
+  pub others : (i : ℕ) → (i ≡ track → ⊥) → at pairing' i ≡ at pairing i
+
+pub record Room (cells : List ℕ) (m n : ℕ) (pairing owner prices discounts dist par shut : List ℕ) : Type 0 where
+  pub shape : Shape cells m n pairing owner prices discounts
+  pub ld : length dist ≡ m
+  pub lpar : length par ≡ m
+  pub ls : length shut ≡ m
+
+pub record Visit (cells : List ℕ) (m track : ℕ) (pairing owner prices discounts dist par shut : List ℕ) : Type 0 where
+  pub good : Good cells m (length prices) pairing owner prices discounts
+  pub rr : track < length prices
+  pub ld : length dist ≡ m
+  pub lpar : length par ≡ m
+  pub ls : length shut ≡ m
+
+-- the whole answer: fair prices, tight pairs, free reports at 0, and each track paired or at the full price
+pub record Solved (cells : List ℕ) (m n : ℕ) (pairing owner prices discounts : List ℕ) : Type 0 where
+  pub good : Good cells m n pairing owner prices discounts
+  pub done : (i : ℕ) → i < n → Done m pairing prices i
+
+-- what the engine asks of a caller: few enough tracks and reports, lists of their lengths, and each cell a score or none
+pub record Tested (cells : List ℕ) (m : ℕ) (pairing prices discounts : List ℕ) : Type 0 where
+  pub lC : length cells ≡ length prices * m
+  pub lp : length pairing ≡ length prices
+  pub lw : length discounts ≡ m
+  pub nn : length prices ≤ mostTracks
+  pub mm : m ≤ widest
+  pub cs : (k : ℕ) → k < length cells → IsCell (at cells k)
+
+-- and what it gives: a certificate, in lists of the same lengths
+pub record Certified (cells : List ℕ) (m n : ℕ) (pairing prices discounts : List ℕ) : Type 0 where
+  pub lp : length pairing ≡ n
+  pub lu : length prices ≡ n
+  pub lw : length discounts ≡ m
+  pub shown : Certificate (sheetOf n m cells) (at pairing) (at prices) (at discounts)

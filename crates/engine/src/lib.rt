@@ -1,0 +1,235 @@
+// The pairing of any sheet, with the prices and discounts that show it best. Each track takes the report of its least score if it is
+// free; then each track without one is inserted by one search, after which prices rise once and the pairing changes along one chain.
+use matching::LEFT_OUT;
+use matching::NONE;
+use passes::fill;
+use passes::idx;
+use passes::row_best;
+use passes::seat;
+use paths::insert;
+ghost use mathlib.Core.Path.{_≡_};
+ghost use Prim.Native.Nat.{ℕ, _<_};
+ghost use lib.ListN.{length};
+ghost use Rattle.matching.specs.Pairing.{at, none};
+ghost use Rattle.engine.specs.Call.{PairsSheet};
+ghost use Rattle.paths.specs.State.{Shape, Good, Inserted};
+ghost use Rattle.engine.specs.State.{Fresh, Claimed, Room, Visit, Solved, Tested, Certified};
+
+// The engine itself takes this many reports, whatever the public call takes.
+const WIDEST: usize = 200;
+
+// The answer of the pairing call: 01's number, or the lists are written.
+pub enum Paired {
+    Refused(u8),
+    Done,
+}
+
+// A track's price is its least score, and a free report of that score is its.
+fn claim(
+    sheet: &[u32],
+    reports: usize,
+    track: u32,
+    pairing: &mut [u32],
+    owner: &mut [u32],
+    prices: &mut [u32],
+    discounts: &[u32],
+)
+    requires { ⌜ Fresh (now sheet) reports track (now pairing) (now owner) (now prices) (now discounts) ⌝ }
+    ensures { λ _. ⌜ Claimed (now (sheet .entry)) reports (length (now (prices .entry))) track (now (pairing .entry)) (now (pairing .exit)) (now (owner .exit)) (now (prices .exit)) (now (discounts .entry)) ⌝ }
+{
+    let x = idx(track);
+    let a = x * reports;
+    let e = a + reports;
+    let c = &sheet[a..e];
+    let b = row_best(c);
+    let v = b.score;
+    let h = b.report;
+    prices[x] = v;
+    if v >= LEFT_OUT {
+        return;
+    }
+    let j = seat(c, owner, v, h);
+    if j >= reports {
+        return;
+    }
+    pairing[x] = j as u32;
+    owner[j] = track;
+}
+
+fn start(
+    sheet: &[u32],
+    reports: usize,
+    pairing: &mut [u32],
+    owner: &mut [u32],
+    prices: &mut [u32],
+    discounts: &[u32],
+)
+    requires { ⌜ Good (now sheet) reports (length (now prices)) (now pairing) (now owner) (now prices) (now discounts) × ((i : ℕ) → i < length (now prices) → at (now pairing) i ≡ none) ⌝ }
+    ensures { λ _. ⌜ Good (now (sheet .entry)) reports (length (now (prices .entry))) (now (pairing .exit)) (now (owner .exit)) (now (prices .exit)) (now (discounts .entry)) ⌝ }
+{
+    let mut track: usize = 0;
+    while track < prices.len() {
+        claim(
+            sheet,
+            reports,
+            track as u32,
+            pairing,
+            owner,
+            prices,
+            discounts,
+        );
+        track += 1;
+    }
+}
+
+// A track that is paired, or has no admissible report, needs no search.
+fn visit(
+    sheet: &[u32],
+    reports: usize,
+    track: u32,
+    pairing: &mut [u32],
+    owner: &mut [u32],
+    prices: &mut [u32],
+    discounts: &mut [u32],
+    dist: &mut [u32],
+    par: &mut [u32],
+    shut: &mut [u32],
+)
+    requires { ⌜ Visit (now sheet) reports track (now pairing) (now owner) (now prices) (now discounts) (now dist) (now par) (now shut) ⌝ }
+    ensures { λ _. ⌜ Inserted (now (sheet .entry)) reports (length (now (prices .entry))) track (now (pairing .entry)) (now (prices .entry)) (now (pairing .exit)) (now (owner .exit)) (now (prices .exit)) (now (discounts .exit)) ⌝ }
+{
+    let x = idx(track);
+    let p = pairing[x];
+    if p != NONE {
+        return;
+    }
+    let v = prices[x];
+    if v >= LEFT_OUT {
+        return;
+    }
+    insert(
+        sheet,
+        reports,
+        track,
+        pairing,
+        owner,
+        prices,
+        discounts,
+        dist,
+        par,
+        shut,
+    );
+}
+
+// No track is paired, and every price and discount is 0.
+fn clear(
+    sheet: &[u32],
+    reports: usize,
+    pairing: &mut [u32],
+    owner: &mut [u32],
+    prices: &mut [u32],
+    discounts: &mut [u32],
+)
+    requires { ⌜ Shape (now sheet) reports (length (now prices)) (now pairing) (now owner) (now prices) (now discounts) ⌝ }
+    ensures { λ _. ⌜ Good (now (sheet .entry)) reports (length (now (prices .entry))) (now (pairing .exit)) (now (owner .exit)) (now (prices .exit)) (now (discounts .exit)) × ((i : ℕ) → i < length (now (prices .entry)) → at (now (pairing .exit)) i ≡ none) ⌝ }
+{
+    fill(pairing, NONE);
+    fill(owner, NONE);
+    fill(prices, 0);
+    fill(discounts, 0);
+}
+
+fn assign(
+    sheet: &[u32],
+    reports: usize,
+    pairing: &mut [u32],
+    owner: &mut [u32],
+    prices: &mut [u32],
+    discounts: &mut [u32],
+    dist: &mut [u32],
+    par: &mut [u32],
+    shut: &mut [u32],
+)
+    requires { ⌜ Room (now sheet) reports (length (now prices)) (now pairing) (now owner) (now prices) (now discounts) (now dist) (now par) (now shut) ⌝ }
+    ensures { λ _. ⌜ Solved (now (sheet .entry)) reports (length (now (prices .entry))) (now (pairing .exit)) (now (owner .exit)) (now (prices .exit)) (now (discounts .exit)) ⌝ }
+{
+    clear(sheet, reports, pairing, owner, prices, discounts);
+    start(sheet, reports, pairing, owner, prices, discounts);
+    let mut track: usize = 0;
+    while track < prices.len() {
+        visit(
+            sheet,
+            reports,
+            track as u32,
+            pairing,
+            owner,
+            prices,
+            discounts,
+            dist,
+            par,
+            shut,
+        );
+        track += 1;
+    }
+}
+
+// The engine on a sheet whose cells were tested, up to 200 reports wide; its working lists are its own.
+pub fn pair_cells(
+    sheet: &[u32],
+    reports: usize,
+    pairing: &mut [u32],
+    prices: &mut [u32],
+    discounts: &mut [u32],
+)
+    requires { ⌜ Tested (now sheet) reports (now pairing) (now prices) (now discounts) ⌝ }
+    ensures { λ _. ⌜ Certified (now (sheet .entry)) reports (length (now (prices .entry))) (now (pairing .exit)) (now (prices .exit)) (now (discounts .exit)) ⌝ }
+{
+    let mut owner = [0u32; WIDEST];
+    let mut dist = [0u32; WIDEST];
+    let mut par = [0u32; WIDEST];
+    let mut shut = [0u32; WIDEST];
+    assign(
+        sheet,
+        reports,
+        pairing,
+        &mut owner[..reports],
+        prices,
+        discounts,
+        &mut dist[..reports],
+        &mut par[..reports],
+        &mut shut[..reports],
+    );
+}
+
+// The public call: refused by 21 or 22, and then nothing is written; else the lists' first entries are written, and no more.
+pub fn pair_sheet(
+    tracks: usize,
+    reports: usize,
+    sheet: &[u32],
+    pairing: &mut [u32],
+    prices: &mut [u32],
+    discounts: &mut [u32],
+) -> Paired
+    ensures { λ r. ⌜ PairsSheet tracks reports (now (sheet .entry)) (now (pairing .entry)) (now (prices .entry)) (now (discounts .entry)) (now (pairing .exit)) (now (prices .exit)) (now (discounts .exit)) r ⌝ }
+{
+    let number = matching::sheet_refusal(
+        tracks,
+        reports,
+        sheet,
+        pairing.len(),
+        prices.len(),
+        discounts.len(),
+    );
+    if number != 0 {
+        return Paired::Refused(number);
+    }
+    let cells = tracks * reports;
+    pair_cells(
+        &sheet[..cells],
+        reports,
+        &mut pairing[..tracks],
+        &mut prices[..tracks],
+        &mut discounts[..reports],
+    );
+    Paired::Done
+}

@@ -1,0 +1,5 @@
+-- What the passes' proofs share: an offer, keys of score and column, prices that rise, and a search from lo on.
+pub mod From
+pub mod Keys
+pub mod Offers
+pub mod Raise

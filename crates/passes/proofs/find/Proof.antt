@@ -1,0 +1,66 @@
+use Rattle.matching.specs.Pairing.{at}
+use borrow.Author.Count.{below-more}
+use lib.ListN.{length}
+use mathlib.Core.Path.{_≡_}
+use Prim.Native.Nat.{ℕ, _+_, _≤_, _<_, _-_}
+use borrow.Author.Needs.{needs}
+use native.Mathlib.Omega.{arith}
+use Rattle.passes.proofs.find.Statement.{statement}
+use Rattle.passes.proofs.find.Tie as tie
+
+abbrev Inv-loop : tie.InvT-loop
+Inv-loop dist shut v j₀ j = (j ≤ length dist) × ((k : ℕ) → k < j → at dist k + at shut k ≡ v → ⊥)
+
+abbrev μ-loop : tie.MeasureT-loop
+μ-loop dist shut v j₀ j = length dist - j
+
+loop-holds : tie.Need-loop-holds Inv-loop μ-loop
+loop-holds c = search needs
+
+mul-x : tie.Need-mul-x Inv-loop μ-loop
+mul-x c = search needs
+
+shared-slice-read-x : tie.Need-shared-slice-read-x Inv-loop μ-loop
+shared-slice-read-x c = search needs
+
+mul-x-2 : tie.Need-mul-x-2 Inv-loop μ-loop
+mul-x-2 c = search needs
+
+shared-slice-read-x-2 : tie.Need-shared-slice-read-x-2 Inv-loop μ-loop
+shared-slice-read-x-2 c = search needs
+
+add-x : tie.Need-add-x Inv-loop μ-loop
+add-x c = omega (arith, c .before .before .before .before .pre .small (c .before .before .before .loop .j) (c .before .before .loop-test .taken))
+
+returns : tie.Need-returns Inv-loop μ-loop
+returns c = record { upto = search needs; here = λ h. c .if1 .taken; before = c .before .before .before .before .loop .inv .1 }
+
+add-j : tie.Need-add-j Inv-loop μ-loop
+add-j c = search needs
+
+loop-less : tie.Need-loop-less Inv-loop μ-loop
+loop-less c = search needs
+
+loop-again : tie.Need-loop-again Inv-loop μ-loop
+loop-again c = (search needs, below-more _ _ (c .before .before .before .before .loop .inv .1) (c .if1 .left))
+
+returns-2 : tie.Need-returns-2 Inv-loop μ-loop
+returns-2 c = record { upto = search needs; here = λ h. absurd (omega arith); before = c .before .loop .inv .1 }
+
+pub find-spec : {M : Type 1} → statement M
+find-spec =
+    tie.close
+    (tie.spec
+    Inv-loop
+    μ-loop
+    loop-holds
+    mul-x
+    shared-slice-read-x
+    mul-x-2
+    shared-slice-read-x-2
+    add-x
+    returns
+    add-j
+    loop-less
+    loop-again
+    returns-2)

@@ -1,0 +1,53 @@
+use Rattle.passes.proofs.Raise.{lifted-set, lifted-not}
+use Rattle.matching.specs.Pairing.{at}
+use mathlib.Core.Path.{ap}
+use mathlib.Core.Logic.{⊎-elim}
+use native.Mathlib.Omega.{arith}
+use borrow.Author.Needs.{needs}
+use Rattle.passes.proofs.topup.Statement.{statement}
+use Rattle.passes.proofs.topup.Tie as tie
+
+idx-requires : tie.Need-idx-requires
+idx-requires c κs = search needs
+
+mul-prices : tie.Need-mul-prices
+mul-prices c = search needs
+
+slice-read-prices : tie.Need-slice-read-prices
+slice-read-prices c = let s = c .before .before .before .before in
+    ⊎-elim (λ z. absurd (omega arith)) (λ a. omega (arith, a .0, c .before .idx .ensures)) (s .pre)
+
+add-prices : tie.Need-add-prices
+add-prices c = let s = c .before .before .before .before in
+    ⊎-elim (λ z. absurd (omega arith)) (λ a. omega (arith, a .1, ap (at (s .args .prices .now)) (c .before .idx .ensures), c .before .idx .ensures)) (s .pre)
+
+mul-prices-2 : tie.Need-mul-prices-2
+mul-prices-2 c = search needs
+
+slice-write-prices : tie.Need-slice-write-prices
+slice-write-prices c = let s = c .before .before .before .before in
+    ⊎-elim (λ z. absurd (omega arith)) (λ a. omega (arith, a .0, c .before .idx .ensures)) (s .pre)
+
+same-length : tie.Need-same-length
+same-length c = search needs
+
+returns : tie.Need-returns
+returns c = let s = c .before .before .before .before in
+    lifted-set _ _ _ _ (c .before .idx .ensures) (s .pre) (c .before .before .if1 .taken)
+
+returns-2 : tie.Need-returns-2
+returns-2 c = lifted-not _ _ _ (c .if1 .left)
+
+pub topup-spec : {M : Type 1} → statement M
+topup-spec =
+    tie.close
+    (tie.spec
+    idx-requires
+    mul-prices
+    slice-read-prices
+    add-prices
+    mul-prices-2
+    slice-write-prices
+    same-length
+    returns
+    returns-2)

@@ -1,0 +1,113 @@
+-- What the engine's passes say of one cell and of whole lists. A label is how far a search has to go to reach a report. Assumes nothing.
+use Prim.Native.Nat.{ℕ, _+_, _-_, _*_, _%_, _≤_, _<_, _^_}
+use mathlib.Core.Path.{_≡_}
+use mathlib.Core.List.{List}
+use mathlib.Core.Logic.{_⊎_}
+use lib.ListN.{length}
+use Rattle.matching.specs.Pairing.{none, scoreEnd, leftOut, at}
+
+-- above every label, and above what an admissible pair adds to one
+abbrev pub far : ℕ
+far = 2 ^ 30
+
+-- a cell: a score, or none
+abbrev pub IsCell : ℕ → Type 0
+IsCell c = (c < scoreEnd) ⊎ (c ≡ none)
+
+-- a label od with parent op becomes nd, np by the offer of track i at label d
+pub record Step (cell discount d price i od op nd np : ℕ) : Type 0 where
+  pub less : nd ≤ od
+  pub reach : cell < far → price + nd ≤ d + cell + discount
+  pub why : ((nd ≡ od) × (np ≡ op)) ⊎ ((cell < far) × ((nd + price ≡ d + cell + discount) × ((nd < od) × (np ≡ i))))
+
+-- what relax asks of its lists
+pub record Fair (cells discounts dist par : List ℕ) (d price : ℕ) : Type 0 where
+  pub lc : length cells ≡ length dist
+  pub lw : length discounts ≡ length dist
+  pub lp : length par ≡ length dist
+  pub cs : (k : ℕ) → k < length dist → IsCell (at cells k)
+  pub du : d ≤ leftOut
+  pub uu : price ≤ leftOut
+  pub ww : (k : ℕ) → k < length dist → at discounts k ≤ leftOut
+  pub dd : (k : ℕ) → k < length dist → at dist k ≤ leftOut
+  pub ok : (k : ℕ) → k < length dist → at cells k < far → price ≤ at cells k + at discounts k
+
+pub record Relaxed (cells discounts : List ℕ) (d price i : ℕ) (dist par dist' par' : List ℕ) : Type 0 where
+  pub ld : length dist' ≡ length dist
+  pub lp : length par' ≡ length dist
+  pub steps : (k : ℕ) → k < length dist → Step (at cells k) (at discounts k) d price i (at dist k) (at par k) (at dist' k) (at par' k)
+
+-- labels, and a mark a report: 0 while it is open
+pub record Labels (dist shut : List ℕ) : Type 0 where
+  pub same : length shut ≡ length dist
+  pub small : (k : ℕ) → k < length dist → at dist k + at shut k < 2 ^ 31
+
+-- and the reports before lo are closed
+pub record FromLabels (lo : ℕ) (dist shut : List ℕ) (cap : ℕ) : Type 0 where
+  pub labels : Labels dist shut
+  pub capped : cap < 2 ^ 31
+  pub upto : lo ≤ length dist
+  pub closed : (k : ℕ) → k < lo → cap ≤ at dist k + at shut k
+
+-- r is the least label of an open report, or cap
+pub record Low (dist shut : List ℕ) (cap r : ℕ) : Type 0 where
+  pub capped : r ≤ cap
+  pub below : (k : ℕ) → k < length dist → r ≤ at dist k + at shut k
+  pub met : (r ≡ cap) ⊎ ((k : ℕ) × ((k < length dist) × (at dist k + at shut k ≡ r)))
+
+-- the first place of v, or the length
+pub record Found (dist shut : List ℕ) (v r : ℕ) : Type 0 where
+  pub upto : r ≤ length dist
+  pub here : r < length dist → at dist r + at shut r ≡ v
+  pub before : (k : ℕ) → k < r → at dist k + at shut k ≡ v → ⊥
+
+-- a nearest open report below cap, or the length
+pub record Nearest (dist shut : List ℕ) (cap j : ℕ) : Type 0 where
+  pub upto : j ≤ length dist
+  pub here : j < length dist → at dist j + at shut j < cap
+  pub least : (k : ℕ) → k < length dist → j < length dist → at dist j + at shut j ≤ at dist k + at shut k
+  pub nobody : (k : ℕ) → k < length dist → length dist ≤ j → cap ≤ at dist k + at shut k
+
+-- ---- the least score of a row
+
+-- more columns than a sheet has
+abbrev pub mostColumns : ℕ
+mostColumns = 256
+
+-- score and column in one number: none comes after every score
+unfoldable pub key : ℕ → ℕ → ℕ
+key cell k = cell % 8388608 * mostColumns + k
+
+-- r is the least key
+pub record Keyed (cells : List ℕ) (r : ℕ) : Type 0 where
+  pub low : (k : ℕ) → k < length cells → r ≤ key (at cells k) k
+  pub met : (r ≡ 2147483647) ⊎ ((k : ℕ) × ((k < length cells) × (r ≡ key (at cells k) k)))
+
+-- v is the least score, of report a; leftOut if there is none
+pub record RowLeast (cells : List ℕ) (v a : ℕ) : Type 0 where
+  pub capped : v ≤ leftOut
+  pub below : (k : ℕ) → k < length cells → v ≤ at cells k
+  pub met : v < leftOut → (a < length cells) × (at cells a ≡ v)
+
+-- ---- prices and discounts after a search that ends at D
+
+-- what raise_rows asks: a report nearer than D is its owner's
+pub record Paid (pairing owner dist prices : List ℕ) (D : ℕ) : Type 0 where
+  pub lo : length owner ≡ length dist
+  pub small : (i : ℕ) → i < length prices → at prices i + D < 2 ^ 32
+  pub mine : (i : ℕ) → i < length prices → at pairing i < length dist → at owner (at pairing i) ≡ i
+  pub near : (j : ℕ) → j < length dist → at dist j < D → (at owner j < length prices) × (at pairing (at owner j) ≡ j)
+
+-- x more at o
+pub record Lifted (prices : List ℕ) (o x : ℕ) (prices' : List ℕ) : Type 0 where
+  pub lu : length prices' ≡ length prices
+  pub others : (k : ℕ) → (k ≡ o → ⊥) → at prices' k ≡ at prices k
+  pub here : at prices' o ≡ at prices o + x
+
+pub record RowsUp (pairing dist : List ℕ) (D : ℕ) (prices prices' : List ℕ) : Type 0 where
+  pub lu : length prices' ≡ length prices
+  pub up : (i : ℕ) → i < length prices → (at pairing i < length dist → at prices' i ≡ at prices i + (D - at dist (at pairing i))) × (length dist ≤ at pairing i → at prices' i ≡ at prices i)
+
+pub record ColsUp (dist : List ℕ) (D : ℕ) (discounts discounts' : List ℕ) : Type 0 where
+  pub lw : length discounts' ≡ length discounts
+  pub up : (j : ℕ) → j < length discounts → at discounts' j ≡ at discounts j + (D - at dist j)

@@ -1,0 +1,276 @@
+// The engine's passes over a row of the sheet and over its lists. A loop body is one call of a by-value function and has no branch, so
+// that it goes by vectors. Lists have an entry a report; a label says how far a search has to go to reach that report.
+use matching::LEFT_OUT;
+use matching::NONE;
+use matching::SCORE_END;
+ghost use mathlib.Core.Path.{_≡_};
+ghost use Prim.Native.Nat.{ℕ, _+_, _-_, _*_, _<_, _≤_, _^_};
+ghost use lib.ListN.{length};
+ghost use mathlib.Core.Logic.{_⊎_};
+ghost use Rattle.matching.specs.Pairing.{at, none, leftOut};
+ghost use Rattle.passes.specs.Cells.{IsCell, far, mostColumns, key, Keyed, RowLeast, Fair, Relaxed, Labels, FromLabels, Low, Found, Nearest, Paid, Lifted, RowsUp, ColsUp};
+
+// Above every label, and above what an admissible pair adds to one.
+pub const FAR: u32 = 1073741824;
+// More columns than a sheet has: a score and its column fit one number.
+const MOST_COLUMNS: u32 = 256;
+
+const KEY_SCORES: u32 = 8388608;
+
+const LAST_KEY: u32 = 2147483647;
+
+// The least score of a row, and a report that has it.
+pub struct Cheapest {
+    pub score: u32,
+    pub report: u32,
+}
+
+pub fn idx(x: u32) -> usize
+    ensures { λ r. ⌜ r ≡ x ⌝ }
+{
+    x as usize
+}
+
+pub fn fill(a: &mut [u32], v: u32)
+    ensures { λ r. ⌜ (length (now (a .exit)) ≡ length (now (a .entry))) × ((k : ℕ) → k < length (now (a .entry)) → at (now (a .exit)) k ≡ v) ⌝ }
+{
+    let mut j: usize = 0;
+    while j < a.len() {
+        a[j] = v;
+        j += 1;
+    }
+}
+
+// What a track at this label offers to a report: `none` is far away.
+fn offer(cell: u32, discount: u32, label: u32, price: u32) -> u32
+    requires { ⌜ (discount ≤ leftOut) × ((label ≤ leftOut) × ((price ≤ leftOut) × ((cell < far → price ≤ cell + discount) × IsCell cell))) ⌝ }
+    ensures { λ r. ⌜ (cell < far → r + price ≡ label + cell + discount) × ((far ≤ cell → 2 ^ 29 ≤ r) × (r < 2 ^ 31)) ⌝ }
+{
+    cell % FAR + discount - price + label
+}
+
+pub fn lesser(a: u32, b: u32) -> u32
+    ensures { λ r. ⌜ (r ≤ a) × ((r ≤ b) × ((a < b → r ≡ a) × (b ≤ a → r ≡ b))) ⌝ }
+{
+    if a < b { a } else { b }
+}
+
+pub fn choose(a: u32, b: u32, x: u32, y: u32) -> u32
+    ensures { λ r. ⌜ (a < b → r ≡ x) × (b ≤ a → r ≡ y) ⌝ }
+{
+    if a < b { x } else { y }
+}
+
+// Both are under 2^31: a signed comparison is one instruction in a vector.
+fn low(a: u32, b: u32) -> u32
+    requires { ⌜ (a < 2 ^ 31) × (b < 2 ^ 31) ⌝ }
+    ensures { λ r. ⌜ (r ≤ a) × ((r ≤ b) × ((a < b → r ≡ a) × (b ≤ a → r ≡ b))) ⌝ }
+{
+    if (a as i32) < (b as i32) { a } else { b }
+}
+
+fn pick(a: u32, b: u32, x: u32, y: u32) -> u32
+    requires { ⌜ (a < 2 ^ 31) × (b < 2 ^ 31) ⌝ }
+    ensures { λ r. ⌜ (a < b → r ≡ x) × (b ≤ a → r ≡ y) ⌝ }
+{
+    if (a as i32) < (b as i32) { x } else { y }
+}
+
+// A track at this label offers to every report of its row.
+pub fn relax(
+    cells: &[u32],
+    discounts: &[u32],
+    label: u32,
+    price: u32,
+    track: u32,
+    dist: &mut [u32],
+    par: &mut [u32],
+)
+    requires { ⌜ Fair (now cells) (now discounts) (now dist) (now par) label price ⌝ }
+    ensures { λ r. ⌜ Relaxed (now (cells .entry)) (now (discounts .entry)) label price track (now (dist .entry)) (now (par .entry)) (now (dist .exit)) (now (par .exit)) ⌝ }
+{
+    let mut j: usize = 0;
+    while j < dist.len() {
+        let nd = offer(cells[j], discounts[j], label, price);
+        let od = dist[j];
+        let op = par[j];
+        dist[j] = low(nd, od);
+        par[j] = pick(nd, od, track, op);
+        j += 1;
+    }
+}
+
+// The least label of an open report, or cap.
+fn least(dist: &[u32], shut: &[u32], cap: u32) -> u32
+    requires { ⌜ Labels (now dist) (now shut) × (cap < 2 ^ 31) ⌝ }
+    ensures { λ r. ⌜ Low (now (dist .entry)) (now (shut .entry)) cap r ⌝ }
+{
+    let mut best = cap;
+    let mut j: usize = 0;
+    while j < dist.len() {
+        best = low(dist[j] + shut[j], best);
+        j += 1;
+    }
+    best
+}
+
+fn find(dist: &[u32], shut: &[u32], v: u32) -> usize
+    requires { ⌜ Labels (now dist) (now shut) ⌝ }
+    ensures { λ r. ⌜ Found (now (dist .entry)) (now (shut .entry)) v r ⌝ }
+{
+    let mut j: usize = 0;
+    while j < dist.len() {
+        let x = dist[j] + shut[j];
+        if x == v {
+            return j;
+        }
+        j += 1;
+    }
+    j
+}
+
+// An open report of least label below cap, or the length.
+fn nearest(dist: &[u32], shut: &[u32], cap: u32) -> usize
+    requires { ⌜ Labels (now dist) (now shut) × (cap < 2 ^ 31) ⌝ }
+    ensures { λ r. ⌜ Nearest (now (dist .entry)) (now (shut .entry)) cap r ⌝ }
+{
+    let v = least(dist, shut, cap);
+    if v < cap {
+        find(dist, shut, v)
+    } else {
+        dist.len()
+    }
+}
+
+// The same from `lo` on, where the reports before are closed.
+pub fn nearest_from(lo: usize, dist: &[u32], shut: &[u32], cap: u32) -> usize
+    requires { ⌜ FromLabels lo (now dist) (now shut) cap ⌝ }
+    ensures { λ r. ⌜ Nearest (now (dist .entry)) (now (shut .entry)) cap r ⌝ }
+{
+    lo + nearest(&dist[lo..], &shut[lo..], cap)
+}
+
+// The first open report from `from` on, or the length.
+pub fn open_from(shut: &[u32], from: usize) -> usize
+    requires { ⌜ from ≤ length (now shut) ⌝ }
+    ensures { λ r. ⌜ (from ≤ r) × ((r ≤ length (now (shut .entry))) × ((k : ℕ) → k < r → from ≤ k → at (now (shut .entry)) k ≡ 0 → ⊥)) ⌝ }
+{
+    let mut j = from;
+    while j < shut.len() {
+        if shut[j] == 0 {
+            return j;
+        }
+        j += 1;
+    }
+    j
+}
+
+// d - x, or 0.
+fn over(d: u32, x: u32) -> u32
+    ensures { λ r. ⌜ r ≡ d - x ⌝ }
+{
+    if x < d { d - x } else { 0 }
+}
+
+fn topup(prices: &mut [u32], o: u32, x: u32)
+    requires { ⌜ (x ≡ 0) ⊎ ((o < length (now prices)) × (at (now prices) o + x < 2 ^ 32)) ⌝ }
+    ensures { λ _. ⌜ Lifted (now (prices .entry)) o x (now (prices .exit)) ⌝ }
+{
+    if x > 0 {
+        let y = idx(o);
+        prices[y] = prices[y] + x;
+    }
+}
+
+// A track whose report lies nearer than d pays the difference. `pairing` is for the contract only.
+pub fn raise_rows(pairing: &[u32], owner: &[u32], dist: &[u32], d: u32, prices: &mut [u32])
+    requires { ⌜ Paid (now pairing) (now owner) (now dist) (now prices) d ⌝ }
+    ensures { λ r. ⌜ RowsUp (now (pairing .entry)) (now (dist .entry)) d (now (prices .entry)) (now (prices .exit)) ⌝ }
+{
+    let mut j: usize = 0;
+    while j < dist.len() {
+        topup(prices, owner[j], over(d, dist[j]));
+        j += 1;
+    }
+}
+
+// And its report's discount rises by as much.
+pub fn raise_cols(dist: &[u32], d: u32, discounts: &mut [u32])
+    requires { ⌜ (length (now dist) ≡ length (now discounts)) × ((j : ℕ) → j < length (now discounts) → at (now discounts) j + d < 2 ^ 32) ⌝ }
+    ensures { λ r. ⌜ ColsUp (now (dist .entry)) d (now (discounts .entry)) (now (discounts .exit)) ⌝ }
+{
+    let mut j: usize = 0;
+    while j < discounts.len() {
+        discounts[j] = discounts[j] + over(d, dist[j]);
+        j += 1;
+    }
+}
+
+// Score and column in one number.
+fn key_of(cell: u32, j: u32) -> u32
+    requires { ⌜ j < mostColumns ⌝ }
+    ensures { λ r. ⌜ (r ≡ key cell j) × (r < 2 ^ 31) ⌝ }
+{
+    cell % KEY_SCORES * MOST_COLUMNS + j
+}
+
+fn row_key(cells: &[u32]) -> u32
+    requires { ⌜ length (now cells) ≤ mostColumns ⌝ }
+    ensures { λ r. ⌜ Keyed (now (cells .entry)) r ⌝ }
+{
+    let mut best: u32 = LAST_KEY;
+    let mut j: usize = 0;
+    while j < cells.len() {
+        best = low(key_of(cells[j], j as u32), best);
+        j += 1;
+    }
+    best
+}
+
+// The least score of a row and its report, or LEFT_OUT.
+pub fn row_best(cells: &[u32]) -> Cheapest
+    requires { ⌜ (length (now cells) ≤ mostColumns) × ((k : ℕ) → k < length (now cells) → IsCell (at (now cells) k)) ⌝ }
+    ensures { λ r. ⌜ RowLeast (now (cells .entry)) (r .score) (r .report) ⌝ }
+{
+    let k = row_key(cells);
+    let v = k / MOST_COLUMNS;
+    if v >= SCORE_END {
+        return Cheapest {
+            score: LEFT_OUT,
+            report: 0,
+        };
+    }
+    Cheapest {
+        score: v,
+        report: k % MOST_COLUMNS,
+    }
+}
+
+// A report from `from` on of score v that no track has, or the length.
+fn tight_free(cells: &[u32], owner: &[u32], v: u32, from: usize) -> usize
+    requires { ⌜ (length (now owner) ≡ length (now cells)) × (from ≤ length (now cells)) ⌝ }
+    ensures { λ r. ⌜ (r < length (now (cells .entry)) → (at (now (cells .entry)) r ≡ v) × (at (now (owner .entry)) r ≡ none)) ⌝ }
+{
+    let mut j = from;
+    while j < cells.len() {
+        if cells[j] == v {
+            if owner[j] == NONE {
+                return j;
+            }
+        }
+        j += 1;
+    }
+    j
+}
+
+// Report h, of score v, if no track has it, or another such report, or the length.
+pub fn seat(cells: &[u32], owner: &[u32], v: u32, h: u32) -> usize
+    requires { ⌜ (length (now owner) ≡ length (now cells)) × ((h < length (now cells)) × (at (now cells) h ≡ v)) ⌝ }
+    ensures { λ r. ⌜ (r < length (now (cells .entry)) → (at (now (cells .entry)) r ≡ v) × (at (now (owner .entry)) r ≡ none)) ⌝ }
+{
+    let hh = idx(h);
+    if owner[hh] == NONE {
+        return hh;
+    }
+    tight_free(cells, owner, v, hh + 1)
+}

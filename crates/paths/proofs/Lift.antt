@@ -1,0 +1,172 @@
+-- The prices after a search: all stays fair, the pairs stay tight, and the chain is tight.
+use Prim.Native.Nat.{ℕ, _+_, _-_, _≤_, _<_}
+use mathlib.Core.Path.{_≡_, ap, sym, subst, _∙_}
+use mathlib.Core.List.{List}
+use mathlib.Core.Logic.{inl, inr, ⊎-elim}
+use native.Mathlib.Omega.{arith}
+use lib.ListN.{length, set, length-set}
+use lib.Seq.{getD-set-same, getD-set-other}
+use Rattle.matching.specs.Pairing.{none, leftOut, at}
+use Rattle.passes.specs.Cells.{Paid, far, RowsUp, ColsUp}
+use Rattle.paths.specs.State.{cell, Shape, Prices, Own, Match, Closed, Link, Tight, Ready, Ended, Turn, Settled, Done, Inserted}
+use Rattle.laws.proofs.Stores.{le-or-lt}
+use Rattle.laws.proofs.Stores.{same-or}
+
+module _ (cells : List ℕ) (m track : ℕ) (pairing owner prices discounts d0 p0 s0 : List ℕ) (R : Ready cells m track pairing owner prices discounts d0 p0 s0)
+    (D report leaver : ℕ) (dist par shut : List ℕ) (E : Ended cells m (length prices) pairing owner prices discounts track D report leaver dist par shut)
+    (prices1 discounts1 : List ℕ) (RU : RowsUp pairing dist D prices prices1) (CU : ColsUp dist D discounts discounts1) where
+  abbrev n : ℕ
+  n = length prices
+
+  abbrev prices2 : List ℕ
+  prices2 = set prices1 track (at prices1 track + D)
+
+  u1-r : at prices1 track ≡ at prices track
+  u1-r = RU .up track (R .rr) .1 (omega (arith, R .rp, E .ld, R .shape .mm))
+
+  u-r : at prices2 track ≡ at prices track + D
+  u-r = getD-set-same prices1 track (at prices1 track + D) 0 (omega (arith, RU .lu, R .rr)) ∙ omega (arith, u1-r)
+
+  u-o : (i : ℕ) → (i ≡ track → ⊥) → at prices2 i ≡ at prices1 i
+  u-o i d = getD-set-other prices1 track i (at prices1 track + D) 0 d
+
+  not-r : (i : ℕ) → at pairing i < m → i ≡ track → ⊥
+  not-r i h q = omega (arith, ap (at pairing) q, R .rp, R .shape .mm)
+
+  u-pair : (i : ℕ) → i < n → at pairing i < m → at prices2 i ≡ at prices i + (D - at dist (at pairing i))
+  u-pair i h p = u-o i (not-r i p) ∙ RU .up i h .0 (omega (arith, E .ld))
+
+  u-none : (i : ℕ) → i < n → (i ≡ track → ⊥) → at pairing i ≡ none → at prices2 i ≡ at prices i
+  u-none i h d p = u-o i d ∙ RU .up i h .1 (omega (arith, E .ld, R .shape .mm))
+
+  w-j : (j : ℕ) → j < m → at discounts1 j ≡ at discounts j + (D - at dist j)
+  w-j j h = CU .up j (omega (arith, R .shape .lw))
+
+  -- a leaver is track, in a pairing, or in none
+  three : (G : Type 0) (i : ℕ) → i < n → (i ≡ track → G)
+      → ((at pairing i < m) → (at owner (at pairing i) ≡ i) → G) → ((i ≡ track → ⊥) → at pairing i ≡ none → G) → G
+  three G i h f g k = ⊎-elim f (λ d. ⊎-elim (λ z. k d z) (λ z. g (z .0) (z .1 .1)) (R .M .paired i h)) (same-or i track)
+
+  -- the closed column of a leaver whose label is below D
+  near-row : (i : ℕ) → (p : at pairing i < m) → at owner (at pairing i) ≡ i → at dist (at pairing i) < D → Closed cells m n pairing prices discounts D dist (at pairing i) i
+  near-row i p b l = (rw b at (E .near (at pairing i) p l))
+
+  feas' : (i j : ℕ) → i < n → j < m → cell cells m i j < far → at prices2 i ≤ cell cells m i j + at discounts1 j
+  feas' i j h g a = three (at prices2 i ≤ cell cells m i j + at discounts1 j) i h
+      (λ q. rw q (omega (arith, u-r, w-j j g, E .root j g (rw q at a))))
+      (λ p b. ⊎-elim (λ l. omega (arith, u-pair i h p, w-j j g, R .P .feas i j h g a))
+      (λ l. omega (arith, u-pair i h p, w-j j g, near-row i p b l .seen j g a)) (le-or-lt D (at dist (at pairing i))))
+      (λ d z. omega (arith, u-none i h d z, w-j j g, R .P .feas i j h g a))
+
+  um' : (i : ℕ) → i < n → at prices2 i ≤ leftOut
+  um' i h = three (at prices2 i ≤ leftOut) i h
+      (λ q. rw q (omega (arith, u-r, E .dr)))
+      (λ p b. ⊎-elim (λ l. omega (arith, u-pair i h p, R .P .um i h))
+      (λ l. omega (arith, u-pair i h p, near-row i p b l .leave)) (le-or-lt D (at dist (at pairing i))))
+      (λ d z. omega (arith, u-none i h d z, R .P .um i h))
+
+  wm' : (j : ℕ) → j < m → at discounts1 j ≤ leftOut
+  wm' j g = ⊎-elim (λ l. omega (arith, w-j j g, R .P .wm j g))
+      (λ l. let x = E .near j g l in omega (arith, w-j j g, x .leave, x .own .tight)) (le-or-lt D (at dist j))
+
+  pub fair2 : Prices cells m n prices2 discounts1
+  fair2 = record { feas = feas'; um = um'; wm = wm' }
+
+  own' : (j : ℕ) → j < m → (i : ℕ) → Own cells m n pairing prices discounts j i → Own cells m n pairing prices2 discounts1 j i
+  own' j g i o =
+      let p : at pairing i < m = omega (arith, o .back) in
+      record {
+        there = o .there;
+        back = o .back;
+        adm = o .adm;
+        tight = omega (arith, u-pair i (o .there) p, w-j j g, o .tight, ap (at dist) (o .back));
+      }
+
+  free' : (j : ℕ) → j < m → at owner j ≡ none → at discounts j ≡ 0 → at discounts1 j ≡ 0
+  free' j g z e = ⊎-elim (λ l. omega (arith, w-j j g)) (λ l. absurd (omega (arith, E .near j g l .own .there, R .shape .nn))) (le-or-lt D (at dist j))
+
+  pub match2 : Match cells m n pairing owner prices2 discounts1 none
+  match2 = record {
+    owned = λ j g d. ⊎-elim (λ a. inl (a .0, free' j g (a .0) (a .1))) (λ o. inr (own' j g (at owner j) o)) (R .M .owned j g d);
+    paired = R .M .paired;
+  }
+
+  pub shape2 : Shape cells m n pairing owner prices2 discounts1
+  shape2 = record {
+    lC = R .shape .lC;
+    lp = R .shape .lp;
+    lo = R .shape .lo;
+    lu = simp length-set (RU .lu);
+    lw = CU .lw ∙ R .shape .lw;
+    nn = R .shape .nn;
+    mm = R .shape .mm;
+    cs = R .shape .cs;
+  }
+
+  tight2 : (c : ℕ) → c < m → far ≤ at shut c → (i : ℕ) → Link cells m n pairing prices discounts track dist shut c i → Tight cells m n pairing prices2 discounts1 track shut c i
+  tight2 c g s i x = record {
+    there = x .there;
+    adm = x .adm;
+    tight = ⊎-elim (λ a. omega (arith, ap (at prices2) (a .0), u-r, a .1, w-j c g, E .low c g s))
+        (λ a. omega (arith, u-pair i (x .there) (a .0), a .1 .1 .1, w-j c g, E .low c g s, E .low (at pairing i) (a .0) (a .1 .0))) (x .how);
+    next = ⊎-elim (λ a. inl (a .0))
+        (λ a. inr (a .0, (a .1 .0, ⊎-elim (λ z. absurd (omega arith)) (λ b. b) (a .1 .1 .0)))) (x .how);
+  }
+
+  pub turned : Turn cells m n prices2 discounts1 track par shut report leaver pairing owner
+  turned = record {
+    shape = shape2;
+    lpar = E .lpar;
+    ls = E .ls;
+    rr = R .rr;
+    rp = R .rp;
+    M = match2;
+    chain = λ b. record { step = λ c g s l. tight2 c g s (at par c) (E .links c g s) };
+    end = ⊎-elim (λ a. inl (a .0, (a .1 .0, a .1 .1 .0)))
+        (λ a. inr (
+          a .0,
+          ⊎-elim (λ b. inl (b .0, omega (arith, u-r, b .1)))
+              (λ b. inr (b .0, (b .1 .0, (b .1 .1 .0, omega (arith, u-pair leaver (b .0) (b .1 .0), b .1 .1 .1, E .low (at pairing leaver) (b .1 .0) (b .1 .1 .0))))))
+              (a .1),
+        ))
+        (E .end);
+  }
+
+  pub turned-at : (x : ℕ) → x ≡ track → Turn cells m n (set prices1 x (at prices1 x + D)) discounts1 track par shut report leaver pairing owner
+  turned-at x e = rw e turned
+
+  inserted-r : (pairing' owner' : List ℕ) → Settled cells m n prices2 discounts1 track pairing pairing' owner' → Inserted cells m n track pairing prices pairing' owner' prices2 discounts1
+  inserted-r pairing' owner' S = record {
+    good = record { shape = S .shape; P = fair2; M = S .M };
+    done = λ i h a. three (Done m pairing' prices2 i) i h (λ q. rw q (S .done-r)) (λ p b. S .done i h p)
+        (λ d z. ⊎-elim (λ p. absurd (omega (arith, R .shape .mm))) (λ e. inr (u-none i h d z ∙ e)) a);
+    done-r = S .done-r;
+  }
+
+  pub inserted : (x : ℕ) → x ≡ track → (pairing' owner' : List ℕ) → Settled cells m n (set prices1 x (at prices1 x + D)) discounts1 track pairing pairing' owner'
+      → Inserted cells m n track pairing prices pairing' owner' (set prices1 x (at prices1 x + D)) discounts1
+  inserted x e pairing' owner' S = rw e (inserted-r pairing' owner' (rw e at S))
+
+  pub u1-small : (x : ℕ) → x ≡ track → at prices1 x + D ≤ leftOut
+  u1-small x e = omega (arith, ap (at prices1) e, u1-r, E .dr)
+
+  len2 : (x : ℕ) → length (set prices1 x (at prices1 x + D)) ≡ length prices
+  len2 x = simp length-set (RU .lu)
+
+  pub turned-len : (x : ℕ) → x ≡ track → Turn cells m (length (set prices1 x (at prices1 x + D))) (set prices1 x (at prices1 x + D)) discounts1 track par shut report leaver pairing owner
+  turned-len x e = subst (λ (k : ℕ). Turn cells m k (set prices1 x (at prices1 x + D)) discounts1 track par shut report leaver pairing owner) (sym (len2 x)) (turned-at x e)
+
+  pub inserted-len : (x : ℕ) → x ≡ track → (pairing' owner' : List ℕ) → Settled cells m (length (set prices1 x (at prices1 x + D))) (set prices1 x (at prices1 x + D)) discounts1 track pairing pairing' owner'
+      → Inserted cells m n track pairing prices pairing' owner' (set prices1 x (at prices1 x + D)) discounts1
+  inserted-len x e pairing' owner' S =
+      inserted x e pairing' owner' (subst (λ (k : ℕ). Settled cells m k (set prices1 x (at prices1 x + D)) discounts1 track pairing pairing' owner') (len2 x) S)
+
+-- a report nearer than D is its owner's
+pub paid : (cells : List ℕ) (m track : ℕ) (pairing owner prices discounts d0 p0 s0 : List ℕ) → Ready cells m track pairing owner prices discounts d0 p0 s0
+    → (D report leaver : ℕ) (dist par shut : List ℕ) → Ended cells m (length prices) pairing owner prices discounts track D report leaver dist par shut → Paid pairing owner dist prices D
+paid cells m track pairing owner prices discounts d0 p0 s0 R D report leaver dist par shut E = record {
+  lo = omega (arith, R .shape .lo, E .ld);
+  small = λ i h. omega (arith, E .dr, R .P .um i h);
+  mine = λ i h p. ⊎-elim (λ z. absurd (omega (arith, E .ld, R .shape .mm))) (λ z. z .1 .1) (R .M .paired i h);
+  near = λ j h l. let K = E .near j (omega (arith, E .ld)) l .own in (K .there, K .back);
+}

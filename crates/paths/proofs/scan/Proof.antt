@@ -1,0 +1,116 @@
+use borrow.Author.Needs.{needs}
+use native.Mathlib.Omega.{arith}
+use lib.ListN.{length}
+use Rattle.laws.proofs.Sums.{row-in}
+use Rattle.paths.proofs.Rows.{fair, scanned}
+use Rattle.paths.proofs.scan.Statement.{statement}
+use Rattle.paths.proofs.scan.Tie as tie
+
+idx-requires : tie.Need-idx-requires
+idx-requires c κs = search needs
+
+mul-a : tie.Need-mul-a
+mul-a c = omega (arith, c .before .before .before .before .before .before .pre .lC, row-in (c .idx .result) (length (c .before .before .before .before .before .before .args .prices .now)) (c .before .before .before .before .before .before .args .reports) (length (c .before .before .before .before .before .before .args .sheet .now)) (omega (arith, c .before .before .before .before .before .before .pre .ii, c .idx .ensures)) (omega (arith, c .before .before .before .before .before .before .pre .lC)))
+
+add-e : tie.Need-add-e
+add-e c = omega (arith, c .before .before .before .before .before .before .pre .lC, row-in (c .idx .result) (length (c .before .before .before .before .before .before .args .prices .now)) (c .before .before .before .before .before .before .args .reports) (length (c .before .before .before .before .before .before .args .sheet .now)) (omega (arith, c .before .before .before .before .before .before .pre .ii, c .idx .ensures)) (omega (arith, c .before .before .before .before .before .before .pre .lC)))
+
+add-s : tie.Need-add-s
+add-s c = omega (arith, c .before .before .before .before .before .before .pre .lom, row-in (c .idx .result) (length (c .before .before .before .before .before .before .args .prices .now)) (c .before .before .before .before .before .before .args .reports) (length (c .before .before .before .before .before .before .args .sheet .now)) (omega (arith, c .before .before .before .before .before .before .pre .ii, c .idx .ensures)) (omega (arith, c .before .before .before .before .before .before .pre .lC)))
+
+mul-price : tie.Need-mul-price
+mul-price c = search needs
+
+shared-slice-read-price : tie.Need-shared-slice-read-price
+shared-slice-read-price c = search needs
+
+mul-relax : tie.Need-mul-relax
+mul-relax c = omega (arith, c .before .before .before .before .before .before .before .pre .lom, row-in (c .before .idx .result) (length (c .before .before .before .before .before .before .before .args .prices .now)) (c .before .before .before .before .before .before .before .args .reports) (length (c .before .before .before .before .before .before .before .args .sheet .now)) (omega (arith, c .before .before .before .before .before .before .before .pre .ii, c .before .idx .ensures)) (omega (arith, c .before .before .before .before .before .before .before .pre .lC)))
+
+sub-relax : tie.Need-sub-relax
+sub-relax c = omega (arith, c .before .before .before .before .before .before .before .pre .lom)
+
+part-relax-start : tie.Need-part-relax-start
+part-relax-start c = omega (arith, c .before .before .before .before .before .before .before .pre .lom)
+
+part-relax-end : tie.Need-part-relax-end
+part-relax-end c = omega (arith, row-in (c .before .idx .result) (length (c .before .before .before .before .before .before .before .args .prices .now)) (c .before .before .before .before .before .before .before .args .reports) (length (c .before .before .before .before .before .before .before .args .sheet .now)) (omega (arith, c .before .before .before .before .before .before .before .pre .ii, c .before .idx .ensures)) (omega (arith, c .before .before .before .before .before .before .before .pre .lC)))
+
+mul-relax-2 : tie.Need-mul-relax-2
+mul-relax-2 c = search needs
+
+sub-relax-2 : tie.Need-sub-relax-2
+sub-relax-2 c = search needs
+
+part-relax-start-2 : tie.Need-part-relax-start-2
+part-relax-start-2 c = search needs
+
+part-relax-end-2 : tie.Need-part-relax-end-2
+part-relax-end-2 c = search needs
+
+mul-relax-3 : tie.Need-mul-relax-3
+mul-relax-3 c = search needs
+
+sub-relax-3 : tie.Need-sub-relax-3
+sub-relax-3 c = search needs
+
+part-relax-start-3 : tie.Need-part-relax-start-3
+part-relax-start-3 c = search needs
+
+part-relax-end-3 : tie.Need-part-relax-end-3
+part-relax-end-3 c = search needs
+
+mul-relax-4 : tie.Need-mul-relax-4
+mul-relax-4 c = search needs
+
+sub-relax-4 : tie.Need-sub-relax-4
+sub-relax-4 c = search needs
+
+part-relax-start-4 : tie.Need-part-relax-start-4
+part-relax-start-4 c = search needs
+
+part-relax-end-4 : tie.Need-part-relax-end-4
+part-relax-end-4 c = search needs
+
+relax-requires : tie.Need-relax-requires
+relax-requires c κs = fair _ _ _ _ _ _ _ _ _ (c .before .before .before .before .before .before .before .before .before .before .before .pre) _ (c .before .before .before .before .before .idx .ensures)
+
+same-length : tie.Need-same-length
+same-length c = search needs
+
+same-length-2 : tie.Need-same-length-2
+same-length-2 c = search needs
+
+returns : tie.Need-returns
+returns c = scanned _ _ _ _ _ _ _ _ _ (c .before .before .before .before .before .before .before .before .before .before .before .before .before .before .before .before .pre) _ (c .before .before .before .before .before .before .before .before .before .before .idx .ensures) _ _ (c .before .before .before .before .relax .ensures)
+
+pub scan-spec : {M : Type 1} → statement M
+scan-spec =
+    tie.close
+    (tie.spec
+    idx-requires
+    mul-a
+    add-e
+    add-s
+    mul-price
+    shared-slice-read-price
+    mul-relax
+    sub-relax
+    part-relax-start
+    part-relax-end
+    mul-relax-2
+    sub-relax-2
+    part-relax-start-2
+    part-relax-end-2
+    mul-relax-3
+    sub-relax-3
+    part-relax-start-3
+    part-relax-end-3
+    mul-relax-4
+    sub-relax-4
+    part-relax-start-4
+    part-relax-end-4
+    relax-requires
+    same-length
+    same-length-2
+    returns)

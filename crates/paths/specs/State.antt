@@ -1,0 +1,200 @@
+-- The engine's state: fair prices, the pairing with at most one hole, and the tree of a search. n tracks, m reports, and the cells of their
+-- sheet row by row. Assumes nothing.
+use Prim.Native.Nat.{ℕ, zero, suc, _+_, _*_, _≤_, _<_}
+use mathlib.Core.Path.{_≡_}
+use mathlib.Core.List.{List, [], _∷_}
+use mathlib.Core.Logic.{_⊎_}
+use lib.ListN.{length}
+use Rattle.matching.specs.Pairing.{none, leftOut, mostTracks, at}
+use Rattle.passes.specs.Cells.{far, Step, IsCell}
+
+-- the engine itself takes this many reports, whatever the public call takes
+abbrev pub widest : ℕ
+widest = 200
+
+-- track i's cell at report j
+abbrev pub cell : List ℕ → ℕ → ℕ → ℕ → ℕ
+cell cells m i j = at cells (i * m + j)
+
+abbrev pub isZero : ℕ → ℕ
+isZero zero = 1
+isZero (suc n) = 0
+
+-- how many reports are open
+unfoldable pub zeros : List ℕ → ℕ
+zeros [] = 0
+zeros (x ∷ xs) = isZero x + zeros xs
+
+-- the lengths, and each cell a score or none
+pub record Shape (cells : List ℕ) (m n : ℕ) (pairing owner prices discounts : List ℕ) : Type 0 where
+  pub lC : length cells ≡ n * m
+  pub lp : length pairing ≡ n
+  pub lo : length owner ≡ m
+  pub lu : length prices ≡ n
+  pub lw : length discounts ≡ m
+  pub nn : n ≤ mostTracks
+  pub mm : m ≤ widest
+  pub cs : (k : ℕ) → k < length cells → IsCell (at cells k)
+
+-- no price less discount above a score
+pub record Prices (cells : List ℕ) (m n : ℕ) (prices discounts : List ℕ) : Type 0 where
+  pub feas : (i j : ℕ) → i < n → j < m → cell cells m i j < far → at prices i ≤ cell cells m i j + at discounts j
+  pub um : (i : ℕ) → i < n → at prices i ≤ leftOut
+  pub wm : (j : ℕ) → j < m → at discounts j ≤ leftOut
+
+-- report j is track i's, and its price less discount is the score
+pub record Own (cells : List ℕ) (m n : ℕ) (pairing prices discounts : List ℕ) (j i : ℕ) : Type 0 where
+  pub there : i < n
+  pub back : at pairing i ≡ j
+  pub adm : cell cells m i j < far
+  pub tight : at prices i ≡ cell cells m i j + at discounts j
+
+-- pairing and owner agree, but for the report h (none: no hole); a report that no track has is without discount
+pub record Match (cells : List ℕ) (m n : ℕ) (pairing owner prices discounts : List ℕ) (h : ℕ) : Type 0 where
+  pub owned : (j : ℕ) → j < m → (j ≡ h → ⊥) → ((at owner j ≡ none) × (at discounts j ≡ 0)) ⊎ Own cells m n pairing prices discounts j (at owner j)
+  pub paired : (i : ℕ) → i < n → (at pairing i ≡ none) ⊎ ((at pairing i < m) × ((at pairing i ≡ h → ⊥) × (at owner (at pairing i) ≡ i)))
+
+-- a closed report c of track i: the search has gone through it
+pub record Closed (cells : List ℕ) (m n : ℕ) (pairing prices discounts : List ℕ) (leaving : ℕ) (dist : List ℕ) (c i : ℕ) : Type 0 where
+  pub own : Own cells m n pairing prices discounts c i
+  pub low : at dist c ≤ leaving
+  pub seen : (j : ℕ) → j < m → cell cells m i j < far → at prices i + at dist j ≤ at dist c + cell cells m i j + at discounts j
+  pub leave : leaving + at prices i ≤ at dist c + leftOut
+
+-- how report c was reached, from track i
+pub record Link (cells : List ℕ) (m n : ℕ) (pairing prices discounts : List ℕ) (track : ℕ) (dist shut : List ℕ) (c i : ℕ) : Type 0 where
+  pub there : i < n
+  pub adm : cell cells m i c < far
+  pub how : ((i ≡ track) × (at dist c + at prices track ≡ cell cells m i c + at discounts c))
+      ⊎ ((at pairing i < m) × ((far ≤ at shut (at pairing i)) × (((at shut c ≡ 0) ⊎ (at shut (at pairing i) < at shut c))
+      × (at dist c + at prices i ≡ at dist (at pairing i) + cell cells m i c + at discounts c))))
+
+-- the search from a track: labels, parents, and the order in which reports were closed
+pub record Tree (cells : List ℕ) (m n : ℕ) (pairing owner prices discounts : List ℕ) (track leaving leaver k : ℕ) (dist par shut : List ℕ) : Type 0 where
+  pub ld : length dist ≡ m
+  pub lpar : length par ≡ m
+  pub ls : length shut ≡ m
+  pub cap : (j : ℕ) → j < m → at dist j ≤ leftOut
+  pub two : (j : ℕ) → j < m → (at shut j ≡ 0) ⊎ ((far ≤ at shut j) × (at shut j < far + k))
+  pub root : (j : ℕ) → j < m → cell cells m track j < far → at prices track + at dist j ≤ cell cells m track j + at discounts j
+  pub closed : (c : ℕ) → c < m → far ≤ at shut c → Closed cells m n pairing prices discounts leaving dist c (at owner c)
+  pub sorted : (c e : ℕ) → c < m → e < m → far ≤ at shut c → at shut e ≡ 0 → at dist c ≤ at dist e
+  pub under : (c : ℕ) → c < m → far ≤ at shut c → at dist c < leftOut
+  pub lvr : leaving + at prices track ≤ leftOut
+  pub last : ((leaver ≡ track) × (leaving + at prices track ≡ leftOut))
+      ⊎ ((leaver < n) × ((at pairing leaver < m) × ((far ≤ at shut (at pairing leaver)) × (leaving + at prices leaver ≡ at dist (at pairing leaver) + leftOut))))
+  pub links : (c : ℕ) → c < m → at dist c < leftOut → Link cells m n pairing prices discounts track dist shut c (at par c)
+  pub count : k + zeros shut ≡ m
+
+pub record Scanned (cells : List ℕ) (m : ℕ) (discounts : List ℕ) (d ui i : ℕ) (dist par dist' par' : List ℕ) : Type 0 where
+  pub ld : length dist' ≡ m
+  pub lp : length par' ≡ m
+  pub steps : (e : ℕ) → e < m → Step (cell cells m i e) (at discounts e) d ui i (at dist e) (at par e) (at dist' e) (at par' e)
+
+-- what scan asks: the reports before lo are closed
+pub record Fit (cells : List ℕ) (m lo i d : ℕ) (prices discounts dist par : List ℕ) : Type 0 where
+  pub lom : lo ≤ m
+  pub before : (e : ℕ) → e < lo → at dist e ≤ d
+  pub ii : i < length prices
+  pub lC : length cells ≡ length prices * m
+  pub cs : (k : ℕ) → k < length cells → IsCell (at cells k)
+  pub lw : length discounts ≡ m
+  pub ld : length dist ≡ m
+  pub lp : length par ≡ m
+  pub dd : d ≤ leftOut
+  pub P : Prices cells m (length prices) prices discounts
+  pub cap : (j : ℕ) → j < m → at dist j ≤ leftOut
+
+-- what search asks: a track that is in no pair
+pub record Ready (cells : List ℕ) (m track : ℕ) (pairing owner prices discounts dist par shut : List ℕ) : Type 0 where
+  pub shape : Shape cells m (length prices) pairing owner prices discounts
+  pub P : Prices cells m (length prices) prices discounts
+  pub M : Match cells m (length prices) pairing owner prices discounts none
+  pub rr : track < length prices
+  pub rp : at pairing track ≡ none
+  pub ld : length dist ≡ m
+  pub lpar : length par ≡ m
+  pub ls : length shut ≡ m
+
+-- what a search finds: labels, and D, at which a free report is reached or a track is left out
+pub record Ended (cells : List ℕ) (m n : ℕ) (pairing owner prices discounts : List ℕ) (track D report leaver : ℕ) (dist par shut : List ℕ) : Type 0 where
+  pub ld : length dist ≡ m
+  pub lpar : length par ≡ m
+  pub ls : length shut ≡ m
+  pub root : (j : ℕ) → j < m → cell cells m track j < far → at prices track + at dist j ≤ cell cells m track j + at discounts j
+  pub dr : D + at prices track ≤ leftOut
+  pub near : (c : ℕ) → c < m → at dist c < D → Closed cells m n pairing prices discounts D dist c (at owner c)
+  pub low : (c : ℕ) → c < m → far ≤ at shut c → at dist c ≤ D
+  pub links : (c : ℕ) → c < m → far ≤ at shut c → Link cells m n pairing prices discounts track dist shut c (at par c)
+  pub end : ((report < m) × ((at owner report ≡ none) × ((far ≤ at shut report) × (at dist report ≡ D))))
+      ⊎ ((report ≡ none) × (((leaver ≡ track) × (D + at prices track ≡ leftOut))
+      ⊎ ((leaver < n) × ((at pairing leaver < m) × ((far ≤ at shut (at pairing leaver)) × (D + at prices leaver ≡ at dist (at pairing leaver) + leftOut))))))
+
+-- the reports on the way back: each is tight at its parent, and its parent's report comes earlier
+pub record Tight (cells : List ℕ) (m n : ℕ) (pairing prices discounts : List ℕ) (track : ℕ) (shut : List ℕ) (c i : ℕ) : Type 0 where
+  pub there : i < n
+  pub adm : cell cells m i c < far
+  pub tight : at prices i ≡ cell cells m i c + at discounts c
+  pub next : (i ≡ track) ⊎ ((at pairing i < m) × ((far ≤ at shut (at pairing i)) × (at shut (at pairing i) < at shut c)))
+
+pub record Chain (cells : List ℕ) (m n : ℕ) (pairing prices discounts : List ℕ) (track : ℕ) (par shut : List ℕ) (bound : ℕ) : Type 0 where
+  pub step : (c : ℕ) → c < m → far ≤ at shut c → at shut c ≤ bound → Tight cells m n pairing prices discounts track shut c (at par c)
+
+-- a hole at h, to be filled along the chain
+pub record Holed (cells : List ℕ) (m n : ℕ) (prices discounts : List ℕ) (track : ℕ) (par shut pairing owner : List ℕ) (h : ℕ) : Type 0 where
+  pub hm : h < m
+  pub hc : far ≤ at shut h
+  pub M : Match cells m n pairing owner prices discounts h
+  pub ch : Chain cells m n pairing prices discounts track par shut (at shut h)
+  pub rp : at pairing track ≡ none
+
+-- the hole is filled
+pub record Whole (cells : List ℕ) (m n : ℕ) (prices discounts : List ℕ) (track : ℕ) (pairing owner : List ℕ) : Type 0 where
+  pub M : Match cells m n pairing owner prices discounts none
+  pub rp : at pairing track < m
+
+pub record Flips (cells : List ℕ) (m n : ℕ) (prices discounts : List ℕ) (track : ℕ) (par shut pairing0 pairing owner : List ℕ) (h : ℕ) : Type 0 where
+  pub shape : Shape cells m n pairing owner prices discounts
+  pub lpar : length par ≡ m
+  pub ls : length shut ≡ m
+  pub rr : track < n
+  pub kept : (i : ℕ) → i < n → at pairing0 i < m → at pairing i < m
+  pub state : Holed cells m n prices discounts track par shut pairing owner h ⊎ ((h ≡ none) × Whole cells m n prices discounts track pairing owner)
+
+pub record Flipped (cells : List ℕ) (m n : ℕ) (prices discounts : List ℕ) (track : ℕ) (pairing pairing' owner' : List ℕ) : Type 0 where
+  pub shape : Shape cells m n pairing' owner' prices discounts
+  pub whole : Whole cells m n prices discounts track pairing' owner'
+  pub kept : (i : ℕ) → i < n → at pairing i < m → at pairing' i < m
+
+pub record Good (cells : List ℕ) (m n : ℕ) (pairing owner prices discounts : List ℕ) : Type 0 where
+  pub shape : Shape cells m n pairing owner prices discounts
+  pub P : Prices cells m n prices discounts
+  pub M : Match cells m n pairing owner prices discounts none
+
+-- the pairing is to be changed along the chain that ends in a free report, or in a track that is left out
+pub record Turn (cells : List ℕ) (m n : ℕ) (prices discounts : List ℕ) (track : ℕ) (par shut : List ℕ) (report leaver : ℕ) (pairing owner : List ℕ) : Type 0 where
+  pub shape : Shape cells m n pairing owner prices discounts
+  pub lpar : length par ≡ m
+  pub ls : length shut ≡ m
+  pub rr : track < n
+  pub rp : at pairing track ≡ none
+  pub M : Match cells m n pairing owner prices discounts none
+  pub chain : (b : ℕ) → Chain cells m n pairing prices discounts track par shut b
+  pub end : ((report < m) × ((at owner report ≡ none) × (far ≤ at shut report)))
+      ⊎ ((report ≡ none) × (((leaver ≡ track) × (at prices track ≡ leftOut))
+      ⊎ ((leaver < n) × ((at pairing leaver < m) × ((far ≤ at shut (at pairing leaver)) × (at prices leaver ≡ leftOut))))))
+
+pub record Settled (cells : List ℕ) (m n : ℕ) (prices discounts : List ℕ) (track : ℕ) (pairing pairing' owner' : List ℕ) : Type 0 where
+  pub shape : Shape cells m n pairing' owner' prices discounts
+  pub M : Match cells m n pairing' owner' prices discounts none
+  pub done : (i : ℕ) → i < n → at pairing i < m → (at pairing' i < m) ⊎ (at prices i ≡ leftOut)
+  pub done-r : (at pairing' track < m) ⊎ (at prices track ≡ leftOut)
+
+-- track i is paired, or left out at the full price
+abbrev pub Done : ℕ → List ℕ → List ℕ → ℕ → Type 0
+Done m pairing prices i = (at pairing i < m) ⊎ (at prices i ≡ leftOut)
+
+pub record Inserted (cells : List ℕ) (m n track : ℕ) (pairing prices pairing' owner' prices' discounts' : List ℕ) : Type 0 where
+  pub good : Good cells m n pairing' owner' prices' discounts'
+  pub done : (i : ℕ) → i < n → Done m pairing prices i → Done m pairing' prices' i
+  pub done-r : Done m pairing' prices' track

@@ -1,0 +1,234 @@
+// One track more: a search from it, prices that rise once, and a pairing that changes along one chain.
+use matching::LEFT_OUT;
+use matching::NONE;
+use passes::FAR;
+use passes::choose;
+use passes::fill;
+use passes::idx;
+use passes::lesser;
+use passes::nearest_from;
+use passes::open_from;
+use passes::raise_cols;
+use passes::raise_rows;
+use passes::relax;
+ghost use lib.ListN.{length};
+ghost use Rattle.matching.specs.Pairing.{at};
+ghost use Rattle.paths.specs.State.{Scanned, Fit, Ready, Ended, Flips, Flipped, Turn, Settled, Inserted};
+
+// How a search ended: at which label, and with a free report, or with a track that is left out.
+struct Ending {
+    d: u32,
+    report: u32,
+    leaver: u32,
+}
+
+// Track i, at label d, offers to every report from lo on; those before are closed.
+fn scan(
+    sheet: &[u32],
+    reports: usize,
+    lo: usize,
+    i: u32,
+    d: u32,
+    prices: &[u32],
+    discounts: &[u32],
+    dist: &mut [u32],
+    par: &mut [u32],
+)
+    requires { ⌜ Fit (now sheet) reports lo i d (now prices) (now discounts) (now dist) (now par) ⌝ }
+    ensures { λ r. ⌜ Scanned (now (sheet .entry)) reports (now (discounts .entry)) d (at (now (prices .entry)) i) i (now (dist .entry)) (now (par .entry)) (now (dist .exit)) (now (par .exit)) ⌝ }
+{
+    let ii = idx(i);
+    let a = ii * reports;
+    let e = a + reports;
+    let s = a + lo;
+    let price = prices[ii];
+    relax(
+        &sheet[s..e],
+        &discounts[lo..],
+        d,
+        price,
+        i,
+        &mut dist[lo..],
+        &mut par[lo..],
+    );
+}
+
+// From a track without a report: labels grow until a free report is nearest, or leaving a track out costs no more.
+fn search(
+    sheet: &[u32],
+    reports: usize,
+    track: u32,
+    pairing: &[u32],
+    owner: &[u32],
+    prices: &[u32],
+    discounts: &[u32],
+    dist: &mut [u32],
+    par: &mut [u32],
+    shut: &mut [u32],
+) -> Ending
+    requires { ⌜ Ready (now sheet) reports track (now pairing) (now owner) (now prices) (now discounts) (now dist) (now par) (now shut) ⌝ }
+    ensures { λ f. ⌜ Ended (now (sheet .entry)) reports (length (now (prices .entry))) (now (pairing .entry)) (now (owner .entry)) (now (prices .entry)) (now (discounts .entry)) track (f .d) (f .report) (f .leaver) (now (dist .exit)) (now (par .exit)) (now (shut .exit)) ⌝ }
+{
+    fill(dist, LEFT_OUT);
+    fill(shut, 0);
+    let mut leaving = LEFT_OUT - prices[idx(track)];
+    let mut leaver = track;
+    let mut k: u32 = 0;
+    let mut lo: usize = 0;
+    scan(sheet, reports, lo, track, 0, prices, discounts, dist, par);
+    let mut j = nearest_from(lo, dist, shut, leaving);
+    while j < reports {
+        let d = dist[j];
+        shut[j] = FAR + k;
+        k += 1;
+        let o = owner[j];
+        if o == NONE {
+            return Ending {
+                d: d,
+                report: j as u32,
+                leaver: NONE,
+            };
+        }
+        let x = d + (LEFT_OUT - prices[idx(o)]);
+        leaver = choose(x, leaving, o, leaver);
+        leaving = lesser(x, leaving);
+        lo = open_from(shut, lo);
+        scan(sheet, reports, lo, o, d, prices, discounts, dist, par);
+        j = nearest_from(lo, dist, shut, leaving);
+    }
+    Ending {
+        d: leaving,
+        report: NONE,
+        leaver: leaver,
+    }
+}
+
+// Report `start` is free: it goes to its parent, whose report goes to its parent, up to the track.
+fn flip(
+    sheet: &[u32],
+    reports: usize,
+    prices: &[u32],
+    discounts: &[u32],
+    track: u32,
+    par: &[u32],
+    shut: &[u32],
+    start: u32,
+    pairing: &mut [u32],
+    owner: &mut [u32],
+)
+    requires { ⌜ Flips (now sheet) reports (length (now prices)) (now prices) (now discounts) track (now par) (now shut) (now pairing) (now pairing) (now owner) start ⌝ }
+    ensures { λ _. ⌜ Flipped (now (sheet .entry)) reports (length (now (prices .entry))) (now (prices .entry)) (now (discounts .entry)) track (now (pairing .entry)) (now (pairing .exit)) (now (owner .exit)) ⌝ }
+{
+    let mut h = start;
+    while h != NONE {
+        let hh = idx(h);
+        let i = par[hh];
+        let ii = idx(i);
+        let next = pairing[ii];
+        pairing[ii] = h;
+        owner[hh] = i;
+        h = next;
+    }
+}
+
+// The pairing changes along the chain that ends in a free report, or in the report of the track that is left out.
+fn finish(
+    sheet: &[u32],
+    reports: usize,
+    prices: &[u32],
+    discounts: &[u32],
+    track: u32,
+    par: &[u32],
+    shut: &[u32],
+    report: u32,
+    leaver: u32,
+    pairing: &mut [u32],
+    owner: &mut [u32],
+)
+    requires { ⌜ Turn (now sheet) reports (length (now prices)) (now prices) (now discounts) track (now par) (now shut) report leaver (now pairing) (now owner) ⌝ }
+    ensures { λ _. ⌜ Settled (now (sheet .entry)) reports (length (now (prices .entry))) (now (prices .entry)) (now (discounts .entry)) track (now (pairing .entry)) (now (pairing .exit)) (now (owner .exit)) ⌝ }
+{
+    if report != NONE {
+        flip(
+            sheet,
+            reports,
+            prices,
+            discounts,
+            track,
+            par,
+            shut,
+            report,
+            pairing,
+            owner,
+        );
+        return;
+    }
+    if leaver == track {
+        return;
+    }
+    let t = idx(leaver);
+    let s = pairing[t];
+    pairing[t] = NONE;
+    flip(
+        sheet,
+        reports,
+        prices,
+        discounts,
+        track,
+        par,
+        shut,
+        s,
+        pairing,
+        owner,
+    );
+}
+
+// One track more is paired, or left out at the full price.
+pub fn insert(
+    sheet: &[u32],
+    reports: usize,
+    track: u32,
+    pairing: &mut [u32],
+    owner: &mut [u32],
+    prices: &mut [u32],
+    discounts: &mut [u32],
+    dist: &mut [u32],
+    par: &mut [u32],
+    shut: &mut [u32],
+)
+    requires { ⌜ Ready (now sheet) reports track (now pairing) (now owner) (now prices) (now discounts) (now dist) (now par) (now shut) ⌝ }
+    ensures { λ _. ⌜ Inserted (now (sheet .entry)) reports (length (now (prices .entry))) track (now (pairing .entry)) (now (prices .entry)) (now (pairing .exit)) (now (owner .exit)) (now (prices .exit)) (now (discounts .exit)) ⌝ }
+{
+    let f = search(
+        sheet,
+        reports,
+        track,
+        pairing,
+        owner,
+        prices,
+        discounts,
+        dist,
+        par,
+        shut,
+    );
+    let d = f.d;
+    let report = f.report;
+    let leaver = f.leaver;
+    raise_cols(dist, d, discounts);
+    raise_rows(pairing, owner, dist, d, prices);
+    let x = idx(track);
+    prices[x] = prices[x] + d;
+    finish(
+        sheet,
+        reports,
+        prices,
+        discounts,
+        track,
+        par,
+        shut,
+        report,
+        leaver,
+        pairing,
+        owner,
+    );
+}

@@ -1,0 +1,2 @@
+-- A bound that several proofs cite.
+pub mod Small
