@@ -1,0 +1,2 @@
+-- Laws of the sector call.
+pub mod Summing

@@ -1,0 +1,2 @@
+-- The sector call.
+pub mod Sum
