@@ -1,4 +1,4 @@
--- The start: a row's price is set, and a free tight column given to it; and the cases of a visit.
+-- The start: a track's price is set, and a free report of that score given to it; and the cases of a visit. Assumes nothing.
 use Prim.Native.Nat.{ℕ, _+_, _*_, _≤_, _<_}
 use mathlib.Core.Path.{_≡_, refl, ap, sym, subst, _∙_}
 use mathlib.Core.List.{List}

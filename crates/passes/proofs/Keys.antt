@@ -1,4 +1,4 @@
--- Signed tests of small numbers; score and column in one number.
+-- Signed tests of small numbers; score and column in one number. Assumes nothing.
 use Prim.Native.Nat.{ℕ, _+_, _*_, _/_, _%_, _≤_, _<_, _^_}
 use mathlib.Core.Path.{_≡_, refl, sym, subst}
 use mathlib.Core.Bool.{true, false, not}

@@ -1,4 +1,4 @@
--- A cell after an offer.
+-- A cell after an offer. Assumes nothing.
 use Prim.Native.Nat.{ℕ, _+_, _≤_, _<_, _^_}
 use mathlib.Core.Path.{_≡_}
 use mathlib.Core.List.{List}

@@ -1,4 +1,4 @@
--- One step of the search: column j is closed at its label, and its leaver o scanned.
+-- One step of the search: report j is closed at its label, and its owner o offers. Assumes nothing.
 use Prim.Native.Nat.{ℕ, zero, suc, _+_, _≤_, _<_}
 use mathlib.Core.Path.{_≡_, refl, ap}
 use mathlib.Core.List.{List, [], _∷_}
@@ -24,7 +24,6 @@ unfolding zeros
 zeros-all [] f = refl
 zeros-all (x ∷ xs) f = rw (f zero (omega arith)) (omega (arith, zeros-all xs (λ k h. f (suc k) (omega arith))))
 
--- an index is j, or another
 module _ (cells : List ℕ) (m n : ℕ) (pairing owner prices discounts : List ℕ) (track leaving leaver k : ℕ) (dist par shut : List ℕ)
     (P : Prices cells m n prices discounts)
     (T : Tree cells m n pairing owner prices discounts track leaving leaver k dist par shut)

@@ -1,4 +1,4 @@
--- The prices after a search: all stays fair, the pairs stay tight, and the chain is tight.
+-- The prices after a search: all stays fair, the pairs stay tight, and the chain is tight. Assumes nothing.
 use Prim.Native.Nat.{ℕ, _+_, _-_, _≤_, _<_}
 use mathlib.Core.Path.{_≡_, ap, sym, subst, _∙_}
 use mathlib.Core.List.{List}
@@ -42,12 +42,12 @@ module _ (cells : List ℕ) (m track : ℕ) (pairing owner prices discounts d0 p
   w-j : (j : ℕ) → j < m → at discounts1 j ≡ at discounts j + (D - at dist j)
   w-j j h = CU .up j (omega (arith, R .shape .lw))
 
-  -- a leaver is track, in a pairing, or in none
+  -- a track is the one that is inserted, in a pair, or in none
   three : (G : Type 0) (i : ℕ) → i < n → (i ≡ track → G)
       → ((at pairing i < m) → (at owner (at pairing i) ≡ i) → G) → ((i ≡ track → ⊥) → at pairing i ≡ none → G) → G
   three G i h f g k = ⊎-elim f (λ d. ⊎-elim (λ z. k d z) (λ z. g (z .0) (z .1 .1)) (R .M .paired i h)) (same-or i track)
 
-  -- the closed column of a leaver whose label is below D
+  -- the closed report of a track whose label is below D
   near-row : (i : ℕ) → (p : at pairing i < m) → at owner (at pairing i) ≡ i → at dist (at pairing i) < D → Closed cells m n pairing prices discounts D dist (at pairing i) i
   near-row i p b l = (rw b at (E .near (at pairing i) p l))
 

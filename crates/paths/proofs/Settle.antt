@@ -1,4 +1,4 @@
--- The two ways in which a chain ends, as holes.
+-- The two ways in which a chain ends, as holes. Assumes nothing.
 use Prim.Native.Nat.{ℕ, _≤_, _<_}
 use mathlib.Core.Path.{_≡_, ap, sym, _∙_}
 use mathlib.Core.List.{List}

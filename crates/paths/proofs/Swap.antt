@@ -1,4 +1,4 @@
--- A hole is filled: column h goes to leaver i, whose column is the next hole.
+-- A hole is filled: report h goes to track i, whose report is the next hole. Assumes nothing.
 use Prim.Native.Nat.{ℕ, _+_, _≤_, _<_}
 use mathlib.Core.Path.{_≡_, ap, sym, _∙_}
 use mathlib.Core.List.{List}
@@ -66,7 +66,7 @@ module _ (cells : List ℕ) (m n : ℕ) (prices discounts pairing owner : List �
   pub shape' : Shape cells m n pairing' owner' prices discounts
   shape' = record { lC = S .lC; lp = simp length-set (S .lp); lo = simp length-set (S .lo); lu = S .lu; lw = S .lw; nn = S .nn; mm = S .mm; cs = S .cs }
 
--- a chain below p outlives a store at p's leaver
+-- a chain below p outlives a store at p's track
 module _ (cells : List ℕ) (m n : ℕ) (prices discounts pairing : List ℕ) (track : ℕ) (par shut : List ℕ) (i v bound : ℕ)
     (K : Chain cells m n pairing prices discounts track par shut bound) (low : at shut (at pairing i) ≤ bound) where
   tight-set : (c : ℕ) → at shut c ≤ at shut (at pairing i) → (k : ℕ) → Tight cells m n pairing prices discounts track shut c k → Tight cells m n (set pairing i v) prices discounts track shut c k
