@@ -1,0 +1,2 @@
+-- The table after pairing.
+pub mod Table

@@ -1,0 +1,1 @@
+// The table after pairing: each slot settled or aged, with its price.
