@@ -1,2 +1,3 @@
 -- The table after pairing.
 pub mod Table
+pub mod Counting

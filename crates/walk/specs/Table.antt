@@ -18,17 +18,17 @@ use Rattle.intake.specs.Refusals.{Input, dueSlots}
 unfoldable pub freed : List ℕ
 freed = replicate slotBytes 0
 
--- a due track with a pair: the report's number is r
-unfoldable pub pairedSlot : Input → ℕ → List ℕ → List ℕ
-pairedSlot i r slot = bytesOf (updatedOf (trackOf slot) (reportOf (getD (i .batch) r [])) (i .sector))
+-- a due track with a pair
+unfoldable pub pairedSlot : (sector : ℕ) (report slot : List ℕ) → List ℕ
+pairedSlot sector report slot = bytesOf (updatedOf (trackOf slot) (reportOf report) sector)
 
 -- a due track without a pair
 unfoldable pub unpairedBytes : Unpaired → List ℕ
 unpairedBytes (Kept t) = bytesOf t
 unpairedBytes Dropped = freed
 
-unfoldable pub missedSlot : Input → List ℕ → List ℕ
-missedSlot i slot = unpairedBytes (coastedOf (trackOf slot) (i .sector))
+unfoldable pub missedSlot : (sector : ℕ) (slot : List ℕ) → List ℕ
+missedSlot sector slot = unpairedBytes (coastedOf (trackOf slot) sector)
 
 -- a slot that is not due: other held tracks lose 1 from their wait, a free slot keeps its bytes
 unfoldable pub agedSlot : List ℕ → List ℕ
@@ -39,10 +39,10 @@ unfoldable pub dueRank : List ℕ → ℕ → ℕ
 dueRank slot rank = rank + cond (slotDue slot) 1 0
 
 -- what a slot becomes; P is the pairing, a report number a due track
-unfoldable pub settledSlot : Input → List ℕ → List ℕ → ℕ → List ℕ
-settledSlot i P slot rank =
+unfoldable pub settledSlot : (sector : ℕ) (batch : List (List ℕ)) (P slot : List ℕ) (rank : ℕ) → List ℕ
+settledSlot sector batch P slot rank =
     cond (slotDue slot)
-    (cond (eqb (at P rank) none) (missedSlot i slot) (pairedSlot i (at P rank) slot))
+    (cond (eqb (at P rank) none) (missedSlot sector slot) (pairedSlot sector (getD batch (at P rank) []) slot))
     (agedSlot slot)
 
 -- a price per slot, 0 where not due at entry
@@ -50,7 +50,7 @@ unfoldable pub slotPrice : List ℕ → List ℕ → ℕ → ℕ
 slotPrice prices slot rank = cond (slotDue slot) (at prices rank) 0
 
 unfoldable pub settledTable : Input → List ℕ → List (List ℕ)
-settledTable i P = outs dueRank (settledSlot i P) (i .table) 0
+settledTable i P = outs dueRank (settledSlot (i .sector) (i .batch) P) (i .table) 0
 
 unfoldable pub slotPrices : Input → List ℕ → List ℕ
 slotPrices i prices = outs dueRank (slotPrice prices) (i .table) 0
@@ -67,11 +67,15 @@ droppedOne (Kept t) = 0
 droppedOne Dropped = 1
 
 -- what becomes of the due track at a place of the pairing that is left out there
-unfoldable pub missedAt : Input → ℕ → Unpaired
-missedAt i rank = coastedOf (trackOf (getD (i .table) (getD (dueSlots (i .table)) rank 0) [])) (i .sector)
+unfoldable pub missedAt : (table : List (List ℕ)) (sector rank : ℕ) → Unpaired
+missedAt table sector rank = coastedOf (trackOf (getD table (getD (dueSlots table) rank 0) [])) sector
+
+-- a sum over the places that are left out
+unfoldable pub missedSum : (Unpaired → ℕ) → (table : List (List ℕ)) (sector tracks : ℕ) (P : List ℕ) → ℕ
+missedSum one table sector tracks P = Sum tracks (λ rank. cond (eqb (at P rank) none) (one (missedAt table sector rank)) 0)
 
 unfoldable pub coastedCount : Input → ℕ → List ℕ → ℕ
-coastedCount i tracks P = Sum tracks (λ rank. cond (eqb (at P rank) none) (keptOne (missedAt i rank)) 0)
+coastedCount i tracks P = missedSum keptOne (i .table) (i .sector) tracks P
 
 unfoldable pub droppedCount : Input → ℕ → List ℕ → ℕ
-droppedCount i tracks P = Sum tracks (λ rank. cond (eqb (at P rank) none) (droppedOne (missedAt i rank)) 0)
+droppedCount i tracks P = missedSum droppedOne (i .table) (i .sector) tracks P
