@@ -1,0 +1,3 @@
+-- Laws of the table after pairing, and of the loops that settle it.
+pub mod Slots
+pub mod Loops

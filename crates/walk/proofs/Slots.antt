@@ -1,0 +1,49 @@
+-- What the step of one slot counts on, and its bytes. Assumes nothing.
+use Prim.Native.Nat.{ℕ, _-_, _≤_, _<_}
+use mathlib.Core.Path.{_≡_}
+use mathlib.Core.Bool.{true, false}
+use mathlib.Core.List.{List}
+use native.Mathlib.Omega.{arith}
+use borrow.Author.Tests.{eqb-false, eq-eqb}
+use lib.IntN.{natAbs}
+use lib.ListN.{set}
+use Rattle.laws.proofs.Tests.{clash}
+use Rattle.numbers.specs.Scales.{halfTurn}
+use Rattle.records.specs.declared.Track.{Track}
+use Rattle.records.specs.Fields.{held, trackFields, WellFormed}
+use Rattle.records.specs.Bytes.{slotBytes, waitAt, markAt, at, trackOf, bytesOf, badSlotField, slotDue}
+use Rattle.records.proofs.Checked.{free-slot-not-due, slot-well-formed}
+use Rattle.records.proofs.RoundTrips.{Bytes, pack-unpack}
+use Rattle.settling.specs.declared.Unpaired.the-variants.{Kept, Dropped}
+use Rattle.settling.specs.Settle.{coastedOf}
+use Rattle.settling.proofs.HandedOn.{aged-bytes}
+use Rattle.walk.specs.Table.{freed, unpairedBytes, missedSlot, agedSlot}
+
+-- a due slot that is not malformed holds a well-formed track
+pub due-track : (slot : List ℕ) (s : ℕ) → badSlotField slot s ≡ trackFields → slotDue slot ≡ true → WellFormed (trackOf slot) s
+due-track slot s e d = slot-well-formed slot s e (λ f. clash d (free-slot-not-due slot f))
+
+-- a held track that is not due still waits
+pub waits-on : (slot : List ℕ) → slotDue slot ≡ false → at slot markAt ≡ held → 0 < at slot waitAt
+unfolding slotDue
+waits-on slot d e =
+    let z : at slot waitAt ≡ 0 → ⊥ = eqb-false (at slot waitAt) 0 (rw (eq-eqb (at slot markAt) held e) at d) in
+    omega arith
+
+-- ageing changes one byte
+pub aged-byte : (slot : List ℕ) → Bytes slotBytes slot → at slot markAt ≡ held → agedSlot slot ≡ set slot waitAt (at slot waitAt - 1)
+unfolding agedSlot trackOf
+aged-byte slot b e = rw (eq-eqb (at slot markAt) held e, aged-bytes (trackOf slot), pack-unpack slot b)
+
+-- a due track without a pair, by what becomes of it
+pub missed-kept : (s : ℕ) (slot : List ℕ) (t : Track) → coastedOf (trackOf slot) s ≡ Kept t → missedSlot s slot ≡ bytesOf t
+unfolding missedSlot unpairedBytes
+missed-kept s slot t e = rw e
+
+pub missed-dropped : (s : ℕ) (slot : List ℕ) → coastedOf (trackOf slot) s ≡ Dropped → missedSlot s slot ≡ freed
+unfolding missedSlot unpairedBytes
+missed-dropped s slot e = rw e
+
+-- a well-formed track's speeds fit sixteen bits
+pub speeds-fit : {t : Track} {s : ℕ} → WellFormed t s → (natAbs (t .«range_speed» .v) ≤ halfTurn) × (natAbs (t .«azimuth_speed» .v) ≤ halfTurn)
+speeds-fit w = (omega (arith, w .range-speed-in), omega (arith, w .azimuth-speed-in))

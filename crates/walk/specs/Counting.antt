@@ -1,0 +1,26 @@
+-- What the loop over the slots counts on. Assumes nothing.
+use Prim.Native.Nat.{ℕ, _≤_, _<_}
+use mathlib.Core.Path.{_≡_}
+use mathlib.Core.Bool.{true}
+use mathlib.Core.List.{List, []}
+use lib.ListN.{length, getD}
+use Rattle.numbers.specs.Scales.{sectors}
+use Rattle.records.specs.Fields.{trackFields, reportFields, badReportField}
+use Rattle.records.specs.Bytes.{at, reportOf, badSlotField, slotDue}
+use Rattle.matching.specs.Pairing.{none}
+use Rattle.intake.specs.Refusals.{Input, dueSlots}
+
+-- a report number or none for each due track, a price for each, and room for a price a slot
+pub record Settles (i : Input) (P trackPrices prices : List ℕ) : Type 0 where
+  pub places : length (dueSlots (i .table)) ≤ length P
+  pub there : (rank : ℕ) → rank < length (dueSlots (i .table)) → (at P rank ≡ none → ⊥) → at P rank < length (i .batch)
+  pub priced : length (dueSlots (i .table)) ≤ length trackPrices
+  pub room : length (i .table) ≤ length prices
+
+-- the same for one slot, at the rank that a due track has
+pub record SlotSettles (sector : ℕ) (batch : List (List ℕ)) (P slot : List ℕ) (rank : ℕ) : Type 0 where
+  pub sector-in : sector < sectors
+  pub slot-good : badSlotField slot sector ≡ trackFields
+  pub reports-good : (j : ℕ) → j < length batch → badReportField (reportOf (getD batch j [])) ≡ reportFields
+  pub place : slotDue slot ≡ true → rank < length P
+  pub there : slotDue slot ≡ true → (at P rank ≡ none → ⊥) → at P rank < length batch

@@ -1,0 +1,3 @@
+-- The table after pairing.
+pub mod Table
+pub mod Counting

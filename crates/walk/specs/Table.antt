@@ -1,0 +1,81 @@
+-- The table after pairing, before any track starts (01, 'After pairing'). Assumes nothing.
+use Prim.Native.Nat.{ℕ, _+_}
+use mathlib.Core.Bool.{cond}
+use mathlib.Core.List.{List, []}
+use lib.Dec.{eqb}
+use lib.ListN.{getD, replicate}
+use Rattle.laws.specs.Lists.{outs}
+use Rattle.laws.specs.Sums.{Sum}
+use Rattle.records.specs.Fields.{held}
+use Rattle.records.specs.Bytes.{at, slotBytes, markAt, trackOf, bytesOf, reportOf, slotDue}
+use Rattle.settling.specs.declared.Unpaired.{Unpaired}
+use Rattle.settling.specs.declared.Unpaired.the-variants.{Kept, Dropped}
+use Rattle.settling.specs.Settle.{updatedOf, coastedOf, agedOf}
+use Rattle.matching.specs.Pairing.{none}
+use Rattle.intake.specs.Refusals.{Input, dueSlots}
+
+-- a slot that is freed is all zero
+unfoldable pub freed : List ℕ
+freed = replicate slotBytes 0
+
+-- a due track with a pair
+unfoldable pub pairedSlot : (sector : ℕ) (report slot : List ℕ) → List ℕ
+pairedSlot sector report slot = bytesOf (updatedOf (trackOf slot) (reportOf report) sector)
+
+-- a due track without a pair
+unfoldable pub unpairedBytes : Unpaired → List ℕ
+unpairedBytes (Kept t) = bytesOf t
+unpairedBytes Dropped = freed
+
+unfoldable pub missedSlot : (sector : ℕ) (slot : List ℕ) → List ℕ
+missedSlot sector slot = unpairedBytes (coastedOf (trackOf slot) sector)
+
+-- a slot that is not due: other held tracks lose 1 from their wait, a free slot keeps its bytes
+unfoldable pub agedSlot : List ℕ → List ℕ
+agedSlot slot = cond (eqb (at slot markAt) held) (bytesOf (agedOf (trackOf slot))) slot
+
+-- the due tracks are counted in slot order: the next one's place in the pairing
+unfoldable pub dueRank : List ℕ → ℕ → ℕ
+dueRank slot rank = rank + cond (slotDue slot) 1 0
+
+-- what a slot becomes; P is the pairing, a report number a due track
+unfoldable pub settledSlot : (sector : ℕ) (batch : List (List ℕ)) (P slot : List ℕ) (rank : ℕ) → List ℕ
+settledSlot sector batch P slot rank =
+    cond (slotDue slot)
+    (cond (eqb (at P rank) none) (missedSlot sector slot) (pairedSlot sector (getD batch (at P rank) []) slot))
+    (agedSlot slot)
+
+-- a price per slot, 0 where not due at entry
+unfoldable pub slotPrice : List ℕ → List ℕ → ℕ → ℕ
+slotPrice prices slot rank = cond (slotDue slot) (at prices rank) 0
+
+unfoldable pub settledTable : Input → List ℕ → List (List ℕ)
+settledTable i P = outs dueRank (settledSlot (i .sector) (i .batch) P) (i .table) 0
+
+unfoldable pub slotPrices : Input → List ℕ → List ℕ
+slotPrices i prices = outs dueRank (slotPrice prices) (i .table) 0
+
+-- ---- the counts of due tracks without a pair
+
+-- a due track that is left out counts 1 where it is kept, or where it is dropped
+unfoldable pub keptOne : Unpaired → ℕ
+keptOne (Kept t) = 1
+keptOne Dropped = 0
+
+unfoldable pub droppedOne : Unpaired → ℕ
+droppedOne (Kept t) = 0
+droppedOne Dropped = 1
+
+-- what becomes of the due track at a place of the pairing that is left out there
+unfoldable pub missedAt : (table : List (List ℕ)) (sector rank : ℕ) → Unpaired
+missedAt table sector rank = coastedOf (trackOf (getD table (getD (dueSlots table) rank 0) [])) sector
+
+-- a sum over the places that are left out
+unfoldable pub missedSum : (Unpaired → ℕ) → (table : List (List ℕ)) (sector tracks : ℕ) (P : List ℕ) → ℕ
+missedSum one table sector tracks P = Sum tracks (λ rank. cond (eqb (at P rank) none) (one (missedAt table sector rank)) 0)
+
+unfoldable pub coastedCount : Input → ℕ → List ℕ → ℕ
+coastedCount i tracks P = missedSum keptOne (i .table) (i .sector) tracks P
+
+unfoldable pub droppedCount : Input → ℕ → List ℕ → ℕ
+droppedCount i tracks P = missedSum droppedOne (i .table) (i .sector) tracks P

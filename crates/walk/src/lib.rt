@@ -1,0 +1,179 @@
+// The table after pairing: each slot settled or aged, with its price.
+ghost use mathlib.Core.Path.{_≡_};
+ghost use mathlib.Core.Bool.{true, false, cond};
+ghost use mathlib.Core.List.{_++_};
+ghost use Prim.Native.Nat.{_≤_, _<_};
+ghost use lib.Dec.{eqb};
+ghost use lib.ListN.{length, drop};
+ghost use Rattle.numbers.specs.Scales.{sectors};
+ghost use Rattle.records.specs.Fields.{WellFormed, Sound};
+ghost use Rattle.records.specs.Bytes.{trackOf, reportOf, slotDue};
+ghost use Rattle.settling.specs.Settle.{Settleable, coastedOf};
+ghost use Rattle.matching.specs.Pairing.{none};
+ghost use Rattle.intake.specs.Refusals.{input, dueSlots, Ready};
+ghost use Rattle.walk.specs.Table.{agedSlot, missedSlot, pairedSlot, settledSlot, slotPrice, settledTable, slotPrices};
+ghost use Rattle.walk.specs.Table.{keptOne, droppedOne, coastedCount, droppedCount};
+ghost use Rattle.walk.specs.Counting.{Settles, SlotSettles};
+use records::Site;
+use settling::Unpaired;
+
+// How many due tracks without a pair coast, and how many are dropped.
+pub struct Missed {
+    pub coasted: u32,
+    pub dropped: u32,
+}
+
+// A slot that is not due: a held track waits one call less.
+fn age_slot(mut slot: [u8; records::SLOT_BYTES]) -> [u8; records::SLOT_BYTES]
+    requires { ⌜ slotDue slot ≡ false ⌝ }
+    ensures { λ r. ⌜ r ≡ agedSlot slot ⌝ }
+{
+    if slot[records::MARK_AT] != records::HELD {
+        return slot;
+    }
+    slot[records::WAIT_AT] -= 1;
+    slot
+}
+
+// A due track without a pair: it coasts, or its slot is freed.
+fn missed_slot(slot: [u8; records::SLOT_BYTES], sector: u8) -> [u8; records::SLOT_BYTES]
+    requires { ⌜ WellFormed (trackOf slot) sector ⌝ }
+    requires { ⌜ sector < sectors ⌝ }
+    ensures { λ r. ⌜ r ≡ missedSlot sector slot ⌝ }
+{
+    let outcome = settling::coasted(records::unpack(slot), sector);
+    match outcome {
+        Unpaired::Kept(t) => records::pack(t),
+        Unpaired::Dropped => [0u8; records::SLOT_BYTES],
+    }
+}
+
+// A due track with its pair.
+fn paired_slot(
+    slot: [u8; records::SLOT_BYTES],
+    report: [u8; records::REPORT_BYTES],
+    sector: u8,
+) -> [u8; records::SLOT_BYTES]
+    requires { ⌜ Settleable (trackOf slot) ⌝ }
+    requires { ⌜ Sound (reportOf report) ⌝ }
+    requires { ⌜ sector < sectors ⌝ }
+    ensures { λ r. ⌜ r ≡ pairedSlot sector report slot ⌝ }
+{
+    let t = records::unpack(slot);
+    let p = records::unpack_report(report);
+    records::pack(settling::updated(t, p, sector))
+}
+
+// What a slot becomes; rank is the place of a due track in the pairing.
+fn settled_slot(
+    slot: [u8; records::SLOT_BYTES],
+    rank: usize,
+    batch: &[[u8; records::REPORT_BYTES]],
+    pairing: &[u32],
+    sector: u8,
+) -> [u8; records::SLOT_BYTES]
+    requires { ⌜ SlotSettles sector (now batch) (now pairing) slot rank ⌝ }
+    ensures { λ r. ⌜ r ≡ settledSlot sector (now (batch .entry)) (now (pairing .entry)) slot rank ⌝ }
+{
+    if !records::slot_due(slot) {
+        return age_slot(slot);
+    }
+    let number = pairing[rank];
+    if number == matching::NONE {
+        return missed_slot(slot, sector);
+    }
+    let j = number as usize;
+    let report = batch[j];
+    paired_slot(slot, report, sector)
+}
+
+// A slot's price: its track's, or 0 where it was not due.
+fn slot_price(slot: [u8; records::SLOT_BYTES], rank: usize, track_prices: &[u32]) -> u32
+    requires { ⌜ (slotDue slot ≡ true → rank < length (now «track_prices»)) ⌝ }
+    ensures { λ r. ⌜ r ≡ slotPrice (now («track_prices» .entry)) slot rank ⌝ }
+{
+    if !records::slot_due(slot) {
+        return 0;
+    }
+    track_prices[rank]
+}
+
+// Every slot in turn: its price, and what becomes of it.
+pub fn settle_table(
+    table: &mut [[u8; records::SLOT_BYTES]],
+    sector: u8,
+    site: Site,
+    batch: &[[u8; records::REPORT_BYTES]],
+    pairing: &[u32],
+    track_prices: &[u32],
+    prices: &mut [u32],
+)
+    requires { ⌜ Ready (input (now table) sector site (now batch)) ⌝ }
+    requires { ⌜ Settles (input (now table) sector site (now batch)) (now pairing) (now «track_prices») (now prices) ⌝ }
+    ensures { λ _. ⌜ now (table .exit) ≡ settledTable (input (now (table .entry)) sector site (now (batch .entry))) (now (pairing .entry)) ⌝ }
+    ensures { λ _. ⌜ now (prices .exit) ≡ slotPrices (input (now (table .entry)) sector site (now (batch .entry))) (now («track_prices» .entry)) ++ drop (length (now (table .entry))) (now (prices .entry)) ⌝ }
+{
+    let mut rank: usize = 0;
+    let mut k: usize = 0;
+    while k < table.len() {
+        let slot = table[k];
+        prices[k] = slot_price(slot, rank, track_prices);
+        table[k] = settled_slot(slot, rank, batch, pairing, sector);
+        rank += intake::due_one(slot);
+        k += 1;
+    }
+}
+
+// What one due track adds to the counts; number is its report's, or NONE.
+fn missed_one(slot: [u8; records::SLOT_BYTES], number: u32, sector: u8) -> Missed
+    requires { ⌜ Settleable (trackOf slot) ⌝ }
+    requires { ⌜ sector < sectors ⌝ }
+    ensures { λ r. ⌜ (r .coasted ≡ cond (eqb number none) (keptOne (coastedOf (trackOf slot) sector)) 0) × (r .coasted ≤ 1) ⌝ }
+    ensures { λ r. ⌜ (r .dropped ≡ cond (eqb number none) (droppedOne (coastedOf (trackOf slot) sector)) 0) × (r .dropped ≤ 1) ⌝ }
+{
+    if number != matching::NONE {
+        return Missed {
+            coasted: 0,
+            dropped: 0,
+        };
+    }
+    let outcome = settling::coasted(records::unpack(slot), sector);
+    match outcome {
+        Unpaired::Kept(_) => Missed {
+            coasted: 1,
+            dropped: 0,
+        },
+        Unpaired::Dropped => Missed {
+            coasted: 0,
+            dropped: 1,
+        },
+    }
+}
+
+// The counts of the table as it stands before it is settled.
+pub fn count_missed(
+    table: &[[u8; records::SLOT_BYTES]],
+    sector: u8,
+    site: Site,
+    batch: &[[u8; records::REPORT_BYTES]],
+    due: &[usize],
+    pairing: &[u32],
+) -> Missed
+    requires { ⌜ Ready (input (now table) sector site (now batch)) ⌝ }
+    requires { ⌜ (now due ≡ dueSlots (now table)) × (length (now due) ≤ length (now pairing)) ⌝ }
+    ensures { λ r. ⌜ r .coasted ≡ coastedCount (input (now (table .entry)) sector site (now (batch .entry))) (length (now (due .entry))) (now (pairing .entry)) ⌝ }
+    ensures { λ r. ⌜ r .dropped ≡ droppedCount (input (now (table .entry)) sector site (now (batch .entry))) (length (now (due .entry))) (now (pairing .entry)) ⌝ }
+{
+    let mut coasted: u32 = 0;
+    let mut dropped: u32 = 0;
+    let mut i: usize = 0;
+    while i < due.len() {
+        let k = due[i];
+        let slot = table[k];
+        let one = missed_one(slot, pairing[i], sector);
+        coasted += one.coasted;
+        dropped += one.dropped;
+        i += 1;
+    }
+    Missed { coasted, dropped }
+}
