@@ -1,0 +1,3 @@
+-- What becomes of each report: laws.
+pub mod Loops
+pub mod Telling
