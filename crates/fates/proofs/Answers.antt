@@ -1,0 +1,125 @@
+-- What the answers say of the reports: each has one of four fates, and is shown only as a part of a settled track. Assumes nothing.
+use Prim.Native.Nat.{ℕ, suc, _+_, _≤_, _<_}
+use mathlib.Core.Path.{_≡_, refl, _∙_}
+use mathlib.Core.Bool.{Bool, true, false, cond}
+use mathlib.Core.List.{List, [], _∷_}
+use native.Mathlib.Omega.{arith}
+use borrow.Author.Tests.{leb-true, le-leb, lt-ltb, ltb-true}
+use lib.Dec.{eqb, leb, ltb}
+use lib.ListN.{length, getD}
+use Rattle.laws.specs.Lists.{indicesFrom}
+use Rattle.laws.proofs.Listed.{length-listed}
+use Rattle.laws.proofs.Fold.{length-outs}
+use Rattle.records.specs.Fields.{isWeak}
+use Rattle.records.specs.Bytes.{trackOf, reportOf}
+use Rattle.fates.specs.Fates.{paired, started, weak, full, noSlot, shownFrom, Handed, isFree, freeSlot, ownerOf, shownMark, slotOf, toldPaired, toldUnpaired, toldOf, afterReport, reportNumbers, fatesOf, shownOf, countOf}
+use Rattle.fates.proofs.Loops.{numbers, outs-at, count-from}
+use Rattle.fates.proofs.Starts.{tableAt, held-at}
+
+-- ---- one fate each
+
+-- one of the four
+pub data Fate : ℕ → Type 0 where
+  is-paired : Fate paired
+  is-started : Fate started
+  is-weak : Fate weak
+  is-full : Fate full
+
+told-fate : (h : Handed) (P : List ℕ) (j : ℕ) (table : List (List ℕ)) → Fate (toldOf h P j table .fate)
+unfolding toldOf toldPaired toldUnpaired
+told-fate h P j table = go (ltb (ownerOf P j) (length P)) (isWeak (reportOf (getD (h .batch) j []))) (leb (length table) (freeSlot table))
+  where
+    go : (a b c : Bool) → Fate ((cond a (toldPaired (slotOf h P j) table) (cond b (record { fate = weak; slot = noSlot; shown = 0 }) (cond c (record { fate = full; slot = noSlot; shown = 0 }) (record { fate = started; slot = freeSlot table; shown = 0 })))) .fate)
+    go true b c = is-paired
+    go false true c = is-weak
+    go false false true = is-full
+    go false false false = is-started
+
+pub length-fates : (h : Handed) (P : List ℕ) (table : List (List ℕ)) → length (fatesOf h P table) ≡ length (h .batch)
+unfolding fatesOf reportNumbers
+length-fates h P table = length-outs _ _ (numbers (length (h .batch))) table ∙ length-listed (length (h .batch)) (λ j. j)
+
+pub fate-of-each : (h : Handed) (P : List ℕ) (table : List (List ℕ)) (j : ℕ) → j < length (h .batch) → Fate (getD (fatesOf h P table) j 0)
+unfolding fatesOf reportNumbers
+fate-of-each h P table j l = rw (outs-at (afterReport h P) (λ j t. toldOf h P j t .fate) (length (h .batch)) (λ j. j) table j 0 l) (told-fate h P j (tableAt h P j table))
+
+-- the first of a list counts 1 where it has the fate
+count-cons : (fate f : ℕ) (fs : List ℕ) → countOf fate (f ∷ fs) ≡ cond (eqb fate f) 1 0 + countOf fate fs
+unfolding countOf indicesFrom
+count-cons fate f fs = go (eqb fate f)
+  where
+    go : (b : Bool) → length (cond b (0 ∷ indicesFrom (eqb fate) 1 fs) (indicesFrom (eqb fate) 1 fs)) ≡ cond b 1 0 + length (indicesFrom (eqb fate) 0 fs)
+    go true = omega (arith, count-from (eqb fate) 1 0 fs)
+    go false = omega (arith, count-from (eqb fate) 1 0 fs)
+
+four-once : (f : ℕ) → Fate f → cond (eqb paired f) 1 0 + cond (eqb started f) 1 0 + cond (eqb weak f) 1 0 + cond (eqb full f) 1 0 ≡ 1
+four-once f is-paired = refl
+four-once f is-started = refl
+four-once f is-weak = refl
+four-once f is-full = refl
+
+count-none : (fate : ℕ) → countOf fate [] ≡ 0
+unfolding countOf indicesFrom
+count-none fate = refl
+
+all-counted : (fs : List ℕ) → ((j : ℕ) → j < length fs → Fate (getD fs j 0)) → countOf paired fs + countOf started fs + countOf weak fs + countOf full fs ≡ length fs
+all-counted [] w = omega (arith, count-none paired, count-none started, count-none weak, count-none full)
+all-counted (f ∷ fs) w =
+    omega (arith, count-cons paired f fs, count-cons started f fs, count-cons weak f fs, count-cons full f fs, four-once f (w 0 (omega arith)), all-counted fs (λ j l. w (suc j) (omega arith)))
+
+-- every report has one of the four fates, and the four counts account for every report
+pub record OneFate (reports : ℕ) (fates : List ℕ) : Type 0 where
+  pub each : (j : ℕ) → j < reports → Fate (getD fates j 0)
+  pub all : countOf paired fates + countOf started fates + countOf weak fates + countOf full fates ≡ reports
+
+pub one-fate : (h : Handed) (P : List ℕ) (table : List (List ℕ)) → OneFate (length (h .batch)) (fatesOf h P table)
+one-fate h P table = record {
+  each = fate-of-each h P table;
+  all = all-counted (fatesOf h P table) (λ j l. fate-of-each h P table j (rw (length-fates h P table) at l)) ∙ length-fates h P table;
+}
+
+-- ---- shown
+
+told-shown : (h : Handed) (P : List ℕ) (j : ℕ) (table : List (List ℕ)) → toldOf h P j table .shown ≡ cond (ltb (ownerOf P j) (length P)) (shownMark (getD table (slotOf h P j) [])) 0
+unfolding toldOf toldPaired toldUnpaired
+told-shown h P j table = go (ltb (ownerOf P j) (length P)) (isWeak (reportOf (getD (h .batch) j []))) (leb (length table) (freeSlot table))
+  where
+    go : (a b c : Bool) → (cond a (toldPaired (slotOf h P j) table) (cond b (record { fate = weak; slot = noSlot; shown = 0 }) (cond c (record { fate = full; slot = noSlot; shown = 0 }) (record { fate = started; slot = freeSlot table; shown = 0 })))) .shown ≡ cond a (shownMark (getD table (slotOf h P j) [])) 0
+    go true b c = refl
+    go false true c = refl
+    go false false true = refl
+    go false false false = refl
+
+module _ (h : Handed) (P : List ℕ) (table : List (List ℕ)) (j : ℕ) (here : j < length (h .batch)) where
+  -- the pairing left a track in the slot of a paired report
+  abbrev TrackThere : Type 0
+  TrackThere = ownerOf P j < length P → isFree (getD table (slotOf h P j) []) ≡ false
+
+  -- the shown mark depends on the table as pairing left it: no report before this one touched the slot
+  pub shown-at : TrackThere → getD (shownOf h P table) j 0 ≡ cond (ltb (ownerOf P j) (length P)) (shownMark (getD table (slotOf h P j) [])) 0
+  unfolding shownOf reportNumbers
+  shown-at there =
+      outs-at (afterReport h P) (λ j t. toldOf h P j t .shown) (length (h .batch)) (λ j. j) table j 0 here
+      ∙ told-shown h P j (tableAt h P j table)
+      ∙ go (ltb (ownerOf P j) (length P)) refl
+    where
+      go : (b : Bool) → ltb (ownerOf P j) (length P) ≡ b → cond b (shownMark (getD (tableAt h P j table) (slotOf h P j) [])) 0 ≡ cond b (shownMark (getD table (slotOf h P j) [])) 0
+      go true e = rw (held-at h P j table (slotOf h P j) (there (ltb-true (ownerOf P j) (length P) e)))
+      go false e = refl
+
+  -- a report is shown exactly when it is paired and its track now has three updates or more
+  pub record Shown : Type 0 where
+    pub is-paired : ownerOf P j < length P
+    pub settled : shownFrom ≤ trackOf (getD table (slotOf h P j) []) .updates
+
+  pub shown-iff : TrackThere → (getD (shownOf h P table) j 0 ≡ 1 → Shown) × (Shown → getD (shownOf h P table) j 0 ≡ 1)
+  unfolding shownMark
+  shown-iff there = rw (shown-at there) (only (ltb (ownerOf P j) (length P)) (leb shownFrom (trackOf (getD table (slotOf h P j) []) .updates)) refl refl, when)
+    where
+      only : (a b : Bool) → ltb (ownerOf P j) (length P) ≡ a → leb shownFrom (trackOf (getD table (slotOf h P j) []) .updates) ≡ b → _≡_ {A = ℕ} (cond a (cond b 1 0) 0) 1 → Shown
+      only true true p q e = record { is-paired = ltb-true _ _ p; settled = leb-true _ _ q }
+      only true false p q e = absurd (omega arith)
+      only false b p q e = absurd (omega arith)
+
+      when : Shown → _≡_ {A = ℕ} (cond (ltb (ownerOf P j) (length P)) (cond (leb shownFrom (trackOf (getD table (slotOf h P j) []) .updates)) 1 0) 0) 1
+      when s = rw (lt-ltb _ _ (s .is-paired), le-leb _ _ (s .settled))

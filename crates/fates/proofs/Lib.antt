@@ -1,0 +1,5 @@
+-- What becomes of each report: laws.
+pub mod Loops
+pub mod Telling
+pub mod Starts
+pub mod Answers

@@ -1,0 +1,2 @@
+-- What becomes of each report.
+pub mod Fates
