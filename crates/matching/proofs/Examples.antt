@@ -1,4 +1,4 @@
--- 01's examples of pairings, and an answer of each number, by computation. Assumes nothing.
+-- An answer of each number, by computation. Assumes nothing.
 use Prim.Native.Nat.{ℕ, _+_, _*_}
 use mathlib.Core.Path.{_≡_, refl}
 use mathlib.Core.Bool.{Bool, true, false, cond}
@@ -9,39 +9,11 @@ use lib.Dec.{eqb}
 use borrow.Author.Tests.{eqb-false}
 use Rattle.laws.specs.Sums.{Sum}
 use Rattle.laws.specs.Tests.{each, holds}
-use Rattle.matching.specs.Pairing.{none, scoreEnd, leftOut, scoreSum, total, Best, Certificate, at, sheetOf}
+use Rattle.matching.specs.Pairing.{none, scoreEnd, leftOut, total, Certificate, at, sheetOf}
 use Rattle.matching.specs.Answer.{sizesOk, cellsOk, pairingOk, numbersOk, scoresOk, totalsOk, sheetRefusal, checkAnswer}
-use Rattle.matching.proofs.Theorems.{zero-certificate, zero-is-best}
+use Rattle.matching.proofs.Theorems.{zero-certificate}
 
--- * Track 0 scores 10 and 20, track 1 scores 12 and none
-abbrev pub two : List ℕ
-two = 10 ∷ 20 ∷ 12 ∷ none ∷ []
-
-abbrev pub crossed : List ℕ
-crossed = 1 ∷ 0 ∷ []
-
--- * prices 20, 22 with discounts 10, 0 pass the check
-pub two-accepted : checkAnswer 2 2 two crossed (20 ∷ 22 ∷ []) (10 ∷ 0 ∷ []) ≡ 0
-unfolding checkAnswer sheetRefusal sizesOk holds cellsOk pairingOk numbersOk scoresOk totalsOk each total Sum
-two-accepted = refl
-
--- * best total 32
-pub two-best : Best (sheetOf 2 2 two) (at crossed)
-two-best = zero-is-best 2 2 two crossed (20 ∷ 22 ∷ []) (10 ∷ 0 ∷ []) two-accepted
-
-pub two-total : total (sheetOf 2 2 two) (at crossed) ≡ 32
-unfolding total Sum
-two-total = refl
-
-pub two-scores : scoreSum (sheetOf 2 2 two) (at crossed) ≡ 32
-unfolding scoreSum Sum
-two-scores = refl
-
--- * One track, no report: price 268,435,456, and no other
-pub alone-accepted : checkAnswer 1 0 [] (none ∷ []) (leftOut ∷ []) [] ≡ 0
-unfolding checkAnswer sheetRefusal sizesOk holds cellsOk pairingOk numbersOk scoresOk totalsOk each total Sum
-alone-accepted = refl
-
+-- one track, no report: the check accepts no price but one
 pub alone-price : (s p u v : List ℕ) → checkAnswer 1 0 s p u v ≡ 0 → at u 0 ≡ leftOut
 unfolding total Sum
 alone-price s p u v e = go (eqb (at p 0) none) refl (c .totals)
@@ -53,12 +25,18 @@ alone-price s p u v e = go (eqb (at p 0) none) refl (c .totals)
     go true f h = omega arith
     go false f h = absurd (not-suc-le-zero (c .valid .there 0 (omega arith) (eqb-false (at p 0) none f)))
 
+-- 01's sheet: track 0 scores 10 and 20, track 1 scores 12 and none
+abbrev pub two : List ℕ
+two = 10 ∷ 20 ∷ 12 ∷ none ∷ []
+
+-- its best pairing
+abbrev pub crossed : List ℕ
+crossed = 1 ∷ 0 ∷ []
+
 -- nearest report first, track by track: track 0 takes report 0, and track 1 is left out
 pub nearest-first : checkAnswer 2 2 two (0 ∷ none ∷ []) (20 ∷ 22 ∷ []) (10 ∷ 0 ∷ []) ≡ 26
 unfolding checkAnswer sheetRefusal sizesOk holds cellsOk pairingOk numbersOk scoresOk totalsOk each total Sum
 nearest-first = refl
-
--- ---- the other answers, and longer lists
 
 pub too-short : checkAnswer 2 2 (10 ∷ 20 ∷ 12 ∷ []) crossed (20 ∷ 22 ∷ []) (10 ∷ 0 ∷ []) ≡ 21
 unfolding checkAnswer sheetRefusal sizesOk holds

@@ -25,6 +25,15 @@ const POSITION_MOST: u64 = 511;
 
 const DOPPLER_TOLERANCE: u64 = 12;
 
+// What a digit of the score is worth: of the zone, the position (three digits), the Doppler, the age.
+pub const ZONE_WORTH: u32 = 262_144;
+
+pub const POSITION_WORTH: u32 = 512;
+
+pub const DOPPLER_WORTH: u32 = 64;
+
+pub const AGE_WORTH: u32 = 8;
+
 pub enum Scored {
     NotAdmissible,
     Score(u32),
@@ -134,7 +143,7 @@ fn choose(first: bool, a: u64, b: u64) -> u64
 
 // Halves the interval of `width` numbers from `low` on until one is left. The width depends on no test, so that the compiler
 // can write out the nine turns without a branch. The sides of 01's rule, but for (2s-1)^2, are computed once.
-fn position_number(dr: u64, da: u64, range_sigma: u8, azimuth_sigma: u8) -> u32
+pub fn position_number(dr: u64, da: u64, range_sigma: u8, azimuth_sigma: u8) -> u32
     requires { ⌜ (dr ≤ rangeMost) × (da ≤ halfTurn) ⌝ }
     ensures { λ r. ⌜ r ≡ positionOf dr da «range_sigma» «azimuth_sigma» ⌝ }
 {
@@ -223,7 +232,11 @@ fn worth(zone: u32, position: u32, doppler: u32, age: u32, trust: u32) -> u32
     requires { ⌜ digitsWorth zone position doppler age trust < 8 ^ 7 ⌝ }
     ensures { λ r. ⌜ r ≡ digitsWorth zone position doppler age trust ⌝ }
 {
-    zone * 262_144 + position * 512 + doppler * 64 + age * 8 + trust
+    zone * ZONE_WORTH
+        + position * POSITION_WORTH
+        + doppler * DOPPLER_WORTH
+        + age * AGE_WORTH
+        + trust
 }
 
 // The position number, which costs most, is computed for admissible pairs only.

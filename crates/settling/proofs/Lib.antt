@@ -3,4 +3,3 @@ pub mod GainLaws
 pub mod Smoothing
 pub mod Waits
 pub mod HandedOn
-pub mod Examples

@@ -23,9 +23,13 @@ pub record Settleable (t : Track) : Type 0 where
 
 -- ---- one coordinate: D = predicted - reported, f = misses + 1, a and b in tenths
 
+-- bD/(10f)
+unfoldable pub speedCorrection : (D : ℤ) (b f : ℕ) → ℤ
+speedCorrection D b f = rounded (D *ℤ pos b) (tenths * f)
+
 -- new speed = speed - bD/(10f), held to the speed range
 unfoldable pub newSpeed : (most : ℕ) (speed D : ℤ) (b f : ℕ) → ℤ
-newSpeed most speed D b f = heldWithin most (speed -ℤ rounded (D *ℤ pos b) (tenths * f))
+newSpeed most speed D b f = heldWithin most (speed -ℤ speedCorrection D b f)
 
 -- aD/10
 unfoldable pub correction : (D : ℤ) (a : ℕ) → ℤ

@@ -5,7 +5,7 @@ ghost use lib.IntN.{pos, natAbs, _*ℤ_};
 ghost use Rattle.numbers.specs.Scales.{rangeMost, sectors, rangeSpeedMost, azimuthSpeedMost};
 ghost use Rattle.records.specs.Fields.{Sound};
 ghost use Rattle.settling.specs.Gains.{tenths, listedAt, gain as Gains·gain, gainA, gainB};
-ghost use Rattle.settling.specs.Settle.{Settleable, newSpeed, correction as Settle·correction};
+ghost use Rattle.settling.specs.Settle.{Settleable, speedCorrection, newSpeed, correction as Settle·correction};
 ghost use Rattle.settling.specs.Settle.{smoothedRange, smoothedAzimuth, rangeAhead, azimuthAhead, waitAfter};
 ghost use Rattle.settling.specs.Settle.{updatesMost, updatedOf, coastedOf, startedOf, agedOf};
 use numbers::Int;
@@ -70,14 +70,14 @@ fn gain(t: Track, p: Report, degraded: u32, listed: u32) -> u32
     listed
 }
 
-fn gain_a(t: Track, p: Report) -> u32
+pub fn gain_a(t: Track, p: Report) -> u32
     requires { ⌜ Sound p ⌝ }
     ensures { λ r. ⌜ (r ≡ gainA t p) × (r ≤ tenths) ⌝ }
 {
     gain(t, p, DEGRADED_A, listed(GAINS_A, p))
 }
 
-fn gain_b(t: Track, p: Report) -> u32
+pub fn gain_b(t: Track, p: Report) -> u32
     requires { ⌜ Sound p ⌝ }
     ensures { λ r. ⌜ (r ≡ gainB t p) × (r ≤ tenths) ⌝ }
 {
@@ -92,16 +92,20 @@ fn weighted(d: Int, gain: u32) -> Int
     d.times(gain)
 }
 
-// The new speed of one coordinate: d is predicted less reported, f one more than the misses.
+// What a pair takes off the speed of one coordinate: d is predicted less reported, f one more than the misses.
+pub fn speed_correction(d: Int, b: u32, f: u32) -> Int
+    requires { ⌜ (natAbs (d .v) ≤ rangeMost) × ((b ≤ tenths) × ((0 < f) × (f ≤ 256))) ⌝ }
+    ensures { λ r. ⌜ (r .v ≡ speedCorrection (d .v) b f) × (natAbs (r .v) ≤ rangeMost * tenths) ⌝ }
+{
+    numbers::rounded(weighted(d, b), TENTHS * f)
+}
+
 fn new_speed(most: u32, speed: Int, d: Int, b: u32, f: u32) -> Int
     requires { ⌜ (natAbs (speed .v) ≤ azimuthSpeedMost) × (natAbs (d .v) ≤ rangeMost) ⌝ }
     requires { ⌜ (b ≤ tenths) × ((0 < f) × (f ≤ 256)) ⌝ }
     ensures { λ r. ⌜ (r .v ≡ newSpeed most (speed .v) (d .v) b f) × (natAbs (r .v) ≤ most) ⌝ }
 {
-    numbers::held_within(
-        speed.minus(numbers::rounded(weighted(d, b), TENTHS * f)),
-        most,
-    )
+    numbers::held_within(speed.minus(speed_correction(d, b, f)), most)
 }
 
 // How far the prediction is drawn towards the report.

@@ -4,14 +4,8 @@ use borrow.Author.Needs.{needs}
 use Rattle.settling.proofs.new_speed.Statement.{statement}
 use Rattle.settling.proofs.new_speed.Tie as tie
 
-weighted-requires : tie.Need-weighted-requires
-weighted-requires c κs = search needs
-
-mul-rounded : tie.Need-mul-rounded
-mul-rounded c = search needs
-
-rounded-requires : tie.Need-rounded-requires
-rounded-requires c κs = search needs
+speed-correction-requires : tie.Need-speed-correction-requires
+speed-correction-requires c κs = search needs
 
 minus-requires : tie.Need-minus-requires
 minus-requires c κs = search needs
@@ -25,11 +19,4 @@ returns c = (cc, omega arith)
 
 pub new-speed-spec : {M : Type 1} → statement M
 new-speed-spec =
-    tie.close
-    (tie.spec
-    weighted-requires
-    mul-rounded
-    rounded-requires
-    minus-requires
-    held-within-requires
-    returns)
+    tie.close (tie.spec speed-correction-requires minus-requires held-within-requires returns)

@@ -1,0 +1,2 @@
+-- The starred examples of 01 hold.
+pub mod Starred

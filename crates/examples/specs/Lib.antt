@@ -1,0 +1,2 @@
+-- The starred examples of 01, as one table of tests.
+pub mod Starred
