@@ -67,3 +67,20 @@ module _ {A : Type 0} where
         done = rw (split, take-at (take n out ++ chunk) _ (n + length chunk) head, append-assoc (take n out) chunk rest) (w .done);
         kept = rw (split, drop-at (take n out ++ chunk) _ (n + length chunk) head) (sym (drop-drop (length chunk) n out) ∙ ap (drop (length chunk)) (w .kept) ∙ drop-drop (length chunk) n out₀);
       }
+
+-- a loop that copies xs behind the n that are written: the first i are
+pub record Copied {A : Type 0} (xs whole out out₀ : List A) (n i : ℕ) : Type 0 where
+  pub upto : i ≤ length xs
+  pub so : Filled whole out out₀ n (drop i xs)
+
+module _ {A : Type 0} where
+  pub copied-none : (xs out : List A) (n : ℕ) → n ≤ length out → Copied xs (take n out ++ xs) out out n 0
+  copied-none xs out n h = record { upto = omega arith; so = record { same = refl; room = h; done = refl; kept = refl } }
+
+  pub copied-more : {xs whole out out₀ : List A} {n i : ℕ} {v : A} (d : A) → Copied xs whole out out₀ n i → n < length out → i < length xs → v ≡ getD xs i d → Copied xs whole (set out n v) out₀ (n + 1) (i + 1)
+  copied-more {xs} {whole} {out} {out₀} {n} {i} {v} d w h l e =
+      let next : drop i xs ≡ v ∷ drop (i + 1) xs = rw (e, add-one i, drop-cons xs i d l) in
+      record { upto = omega arith; so = filled-more (rw next at (w .so)) h }
+
+  pub copied-end : {xs whole out out₀ : List A} {n i : ℕ} → Copied xs whole out out₀ n i → length xs ≤ i → out ≡ whole ++ drop n out₀
+  copied-end {xs} {whole} {out} {out₀} {n} {i} w h = filled-end (rw (drop-of-length-le xs h) at (w .so))
