@@ -1,2 +1,3 @@
 -- The sector call.
 pub mod Sum
+pub mod Serve

@@ -5,6 +5,23 @@ ghost use lib.ListN.{length};
 ghost use Rattle.matching.specs.Pairing.{at, scoreEnd, sheetOf, scoreOr, scoreSum};
 ghost use Rattle.sector.specs.Sum.{Summable};
 
+use records::Site;
+
+pub struct Counts {
+    pub paired: u32,
+    pub coasted: u32,
+    pub dropped: u32,
+    pub started: u32,
+    pub weak: u32,
+    pub full: u32,
+    pub score_sum: u32,
+}
+
+pub enum Served {
+    Refused(u8),
+    Done(Counts),
+}
+
 fn index(x: u32) -> usize
     ensures { λ r. ⌜ r ≡ x ⌝ }
 {
