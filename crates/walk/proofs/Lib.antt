@@ -1,3 +1,5 @@
 -- Laws of the table after pairing, and of the loops that settle it.
-pub mod Slots
 pub mod Loops
+pub mod Slots
+pub mod Walks
+pub mod Settled

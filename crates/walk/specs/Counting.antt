@@ -10,14 +10,18 @@ use Rattle.records.specs.Bytes.{at, reportOf, badSlotField, slotDue}
 use Rattle.matching.specs.Pairing.{none}
 use Rattle.intake.specs.Refusals.{Input, dueSlots}
 
--- a report number or none for each due track, a price for each, and room for a price a slot
-pub record Settles (i : Input) (P trackPrices prices : List ℕ) : Type 0 where
+-- the pairing names, for each due track, a report that is there or none
+pub record Names (i : Input) (P : List ℕ) : Type 0 where
   pub places : length (dueSlots (i .table)) ≤ length P
   pub there : (rank : ℕ) → rank < length (dueSlots (i .table)) → (at P rank ≡ none → ⊥) → at P rank < length (i .batch)
+
+-- with it a price for each due track, and room for a price a slot
+pub record Settles (i : Input) (P trackPrices prices : List ℕ) : Type 0 where
+  pub names : Names i P
   pub priced : length (dueSlots (i .table)) ≤ length trackPrices
   pub room : length (i .table) ≤ length prices
 
--- the same for one slot, at the rank that a due track has
+-- what the step of one slot counts on; rank is the place of a due track in the pairing
 pub record SlotSettles (sector : ℕ) (batch : List (List ℕ)) (P slot : List ℕ) (rank : ℕ) : Type 0 where
   pub sector-in : sector < sectors
   pub slot-good : badSlotField slot sector ≡ trackFields

@@ -118,7 +118,8 @@ pub fn settle_table(
     while k < table.len() {
         let slot = table[k];
         prices[k] = slot_price(slot, rank, track_prices);
-        table[k] = settled_slot(slot, rank, batch, pairing, sector);
+        let settled = settled_slot(slot, rank, batch, pairing, sector);
+        table[k] = settled;
         rank += intake::due_one(slot);
         k += 1;
     }

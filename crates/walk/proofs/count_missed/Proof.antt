@@ -1,4 +1,4 @@
-use Rattle.walk.proofs.Loops.{MissedSoFar, missed-none, missed-more, missed-end, next-due}
+use Rattle.walk.proofs.Walks.{MissedSoFar, missed-none, missed-more, missed-end, next-due}
 use Rattle.walk.specs.Table.{coastedCount, droppedCount}
 use lib.ListN.{length}
 use Prim.Native.Nat.{_-_}

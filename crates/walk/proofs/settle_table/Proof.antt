@@ -1,4 +1,4 @@
-use Rattle.walk.proofs.Loops.{Walked, walked-none, walked-more, walked-end, next-slot}
+use Rattle.walk.proofs.Walks.{Walked, walked-none, walked-more, walked-end, next-slot}
 use Rattle.walk.specs.Table.{settledTable, slotPrices}
 use lib.ListN.{length}
 use Prim.Native.Nat.{_-_}
@@ -42,11 +42,11 @@ settled-slot-requires c κs =
     let s = c .before .before .before .before .before .before .before in
     next-slot (s .pre .0) (s .pre .1) (c .before .before .before .loop .inv) (c .before .before .loop-test .taken) .settles
 
-mul-t11 : tie.Need-mul-t11 Inv-loop μ-loop
-mul-t11 c = search needs
+mul-settled : tie.Need-mul-settled Inv-loop μ-loop
+mul-settled c = search needs
 
-slice-set-from-table : tie.Need-slice-set-from-table Inv-loop μ-loop
-slice-set-from-table c = search needs
+slice-set-from-settled : tie.Need-slice-set-from-settled Inv-loop μ-loop
+slice-set-from-settled c = search needs
 
 due-one-requires : tie.Need-due-one-requires Inv-loop μ-loop
 due-one-requires c κs = search needs
@@ -91,8 +91,8 @@ settle-table-spec =
     mul-prices
     slice-write-prices
     settled-slot-requires
-    mul-t11
-    slice-set-from-table
+    mul-settled
+    slice-set-from-settled
     due-one-requires
     add-rank
     add-k
