@@ -115,7 +115,7 @@ fn score(dr: u32, da: u16, speed: u32, high: u8, low: u8) -> u64
     }
 }
 
-// The zone's digit: inner 3, outer 6.
+// The zone's digit: inner 3, outer 6, and 0 for a pair that is not admissible.
 fn zone_line(name: &[u8], dr: u32)
     requires { ⌜ dr ≤ rangeMost ⌝ }
 {
