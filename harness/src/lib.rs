@@ -8,5 +8,7 @@ pub mod scenes;
 
 #[cfg(feature = "border")]
 pub mod border;
+#[cfg(feature = "border")]
+pub mod judge;
 #[cfg(feature = "standin")]
 pub mod standin;
