@@ -5,6 +5,7 @@ pub mod generator;
 pub mod guarded;
 pub mod reference;
 pub mod scenes;
+pub mod wide;
 
 #[cfg(feature = "border")]
 pub mod border;

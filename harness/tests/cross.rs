@@ -6,6 +6,7 @@ use harness::reference::pairing::{check_pairing, pair_sheet, worth, LEFT_OUT, NO
 use harness::reference::scoring::{position, score};
 use harness::reference::*;
 use harness::scenes::*;
+use harness::wide;
 
 /// The largest s in 1..511 with (2s-1)^2 (rs as)^2 <= 64 ((dr as)^2 + (da rs)^2), 0 if none.
 fn position_by_search(dr: i128, da: i128, site: Site) -> u32 {
@@ -140,6 +141,11 @@ fn large_sheets_pass_the_check() {
         let (mut pairing, mut prices, mut discounts) = (vec![7; tracks], vec![7; tracks], vec![7; reports]);
         assert_eq!(pair_sheet(tracks, reports, &sheet.cells, &mut pairing, &mut prices, &mut discounts), 0);
         assert_eq!(check_pairing(tracks, reports, &sheet.cells, &pairing, &prices, &discounts), 0);
+        let best = worth(reports, &sheet.cells, &pairing);
+        // The second engine, too.
+        wide::pair_sheet(tracks, reports, &sheet.cells, &mut pairing, &mut prices, &mut discounts);
+        assert_eq!(check_pairing(tracks, reports, &sheet.cells, &pairing, &prices, &discounts), 0);
+        assert_eq!(worth(reports, &sheet.cells, &pairing), best);
     }
 }
 

@@ -289,6 +289,15 @@ fn print_tally(tally: &Tally, seconds: f64) {
     }
 }
 
+/// The faults that the stand-in knows, for its test.
+fn print_faults() -> ! {
+    #[cfg(feature = "standin")]
+    for (place, name) in harness::standin::FAULTS.iter().enumerate() {
+        println!("{}\t{name}", place + 1);
+    }
+    std::process::exit(0)
+}
+
 struct Options {
     calls: u64,
     seed: u64,
@@ -298,7 +307,7 @@ struct Options {
 }
 
 fn options() -> Result<Options, String> {
-    let mut options = Options { calls: 1_200_000, seed: 20_240_917, case: None, trace: false, plotrun: None };
+    let mut options = Options { calls: 3_000_000, seed: 20_240_917, case: None, trace: false, plotrun: None };
     let mut words = std::env::args().skip(1);
     while let Some(word) = words.next() {
         let mut number = || words.next().and_then(|text| text.parse().ok()).ok_or(format!("{word} takes a number"));
@@ -307,6 +316,7 @@ fn options() -> Result<Options, String> {
             "--seed" => options.seed = number()?,
             "--case" => options.case = Some(number()?),
             "--trace" => options.trace = true,
+            "--faults" => print_faults(),
             "--plotrun" => options.plotrun = Some(words.next().ok_or("--plotrun takes a program")?),
             _ => return Err(format!("unknown word {word}")),
         }

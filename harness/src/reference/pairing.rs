@@ -58,26 +58,25 @@ pub fn pair(
     let mut owner = [NOBODY; MOST];
     let mut distance = [0i32; MOST];
     let mut from = [0u8; MOST];
-    let mut settled = [false; MOST];
-    // The tracks that the search has reached, at what distance, and by which report of theirs.
+    // The reports that the search has not settled yet, in no order.
+    let mut open = [0u8; MOST];
+    // The tracks that it has reached, at what distance, and by which report of theirs.
     let mut reached = [(0u8, 0i32, 0u8); MOST];
 
     pairing.fill(NONE);
     prices.fill(0);
     discounts.fill(0);
-    let (distance, from, settled, owner) =
-        (&mut distance[..reports], &mut from[..reports], &mut settled[..reports], &mut owner[..reports]);
-
     for newcomer in 0..tracks {
-        distance.fill(i32::MAX);
-        settled.fill(false);
-        let mut count = 0;
+        distance[..reports].fill(i32::MAX);
+        open[..reports].iter_mut().enumerate().for_each(|(report, place)| *place = report as u8);
+        let mut open_count = reports;
+        let mut reached_count = 0;
         let mut track = newcomer;
         let mut so_far = 0i32;
         let mut cheapest_leaving = i32::MAX;
         let mut leaver = newcomer;
 
-        // Where the path ends: the report that was free, if it ends at one.
+        // How long the path is, and the free report that it ends at, if it does not end in leaving.
         let (length, free_report) = loop {
             let leaving = so_far + LEFT_OUT as i32 - prices[track] as i32;
             if leaving < cheapest_leaving {
@@ -87,11 +86,9 @@ pub fn pair(
             let row = &sheet[track * reports..][..reports];
             let base = so_far - prices[track] as i32;
             let mut nearest = cheapest_leaving;
-            let mut next = reports;
-            for report in 0..reports {
-                if settled[report] {
-                    continue;
-                }
+            let mut next = None;
+            for place in 0..open_count {
+                let report = open[place] as usize;
                 let through = base + (row[report] & AFFORDABLE) as i32 + discounts[report] as i32;
                 if through < distance[report] {
                     distance[report] = through;
@@ -99,25 +96,25 @@ pub fn pair(
                 }
                 if distance[report] < nearest {
                     nearest = distance[report];
-                    next = report;
+                    next = Some(place);
                 }
             }
-            if next == reports {
-                break (cheapest_leaving, None);
+            let Some(place) = next else { break (cheapest_leaving, None) };
+            let report = open[place] as usize;
+            if owner[report] == NOBODY {
+                break (nearest, Some(report));
             }
-            if owner[next] == NOBODY {
-                break (nearest, Some(next));
-            }
-            settled[next] = true;
+            open_count -= 1;
+            open[place] = open[open_count];
             so_far = nearest;
-            track = owner[next] as usize;
-            reached[count] = (track as u8, so_far, next as u8);
-            count += 1;
+            track = owner[report] as usize;
+            reached[reached_count] = (track as u8, so_far, report as u8);
+            reached_count += 1;
         };
 
-        // Prices rise by what their track's share of the path leaves over; so do the discounts.
+        // Each price rises by what is left of the path from its track on, and so do the discounts.
         prices[newcomer] += length as u32;
-        for &(track, at, report) in &reached[..count] {
+        for &(track, at, report) in &reached[..reached_count] {
             prices[track as usize] += (length - at) as u32;
             discounts[report as usize] += (length - at) as u32;
         }
