@@ -11,11 +11,11 @@ impl Generator {
     /// A generator of its own for case `number`, so that any one case can be run again alone.
     pub fn for_case(seed: u64, number: u64) -> Generator {
         let mut mixer = Generator(seed ^ number.wrapping_mul(0xd134_2543_de82_ef95));
-        Generator(mixer.next())
+        Generator(mixer.draw())
     }
 
     #[inline]
-    pub fn next(&mut self) -> u64 {
+    pub fn draw(&mut self) -> u64 {
         self.0 = self.0.wrapping_add(0x9e37_79b9_7f4a_7c15);
         let mut z = self.0;
         z = (z ^ (z >> 30)).wrapping_mul(0xbf58_476d_1ce4_e5b9);
@@ -26,7 +26,7 @@ impl Generator {
     /// 0..bound, bound not 0.
     #[inline]
     pub fn below(&mut self, bound: u64) -> u64 {
-        ((self.next() as u128 * bound as u128) >> 64) as u64
+        ((self.draw() as u128 * bound as u128) >> 64) as u64
     }
 
     /// low..=high.
@@ -52,7 +52,7 @@ impl Generator {
 
     #[inline]
     pub fn byte(&mut self) -> u8 {
-        self.next() as u8
+        self.draw() as u8
     }
 
     pub fn pick<T: Copy>(&mut self, list: &[T]) -> T {

@@ -12,19 +12,19 @@ pub trait Noise: Copy + PartialEq + std::fmt::Debug {
 
 impl Noise for u8 {
     fn noise(generator: &mut Generator) -> u8 {
-        generator.next() as u8
+        generator.draw() as u8
     }
 }
 
 impl Noise for u16 {
     fn noise(generator: &mut Generator) -> u16 {
-        generator.next() as u16
+        generator.draw() as u16
     }
 }
 
 impl Noise for u32 {
     fn noise(generator: &mut Generator) -> u32 {
-        generator.next() as u32
+        generator.draw() as u32
     }
 }
 
@@ -32,7 +32,7 @@ impl<const N: usize> Noise for [u8; N] {
     fn noise(generator: &mut Generator) -> [u8; N] {
         let mut bytes = [0; N];
         for part in bytes.chunks_mut(8) {
-            part.copy_from_slice(&generator.next().to_le_bytes()[..part.len()]);
+            part.copy_from_slice(&generator.draw().to_le_bytes()[..part.len()]);
         }
         bytes
     }

@@ -95,8 +95,12 @@ pub fn serve(g: &mut Generator, scene: &mut Scene, tally: &mut Tally) -> Judged<
     let taken_in = intake(&scene.table, scene.sector, scene.site, &scene.batch);
     let short = scene.rooms[..4].iter().any(|&room| room < scene.batch.len()) || scene.rooms[4] < scene.table.len();
     let (due, reports) = match (taken_in, short) {
-        (Err(refusal), _) => return refused(number, refusal, &table, &sector, &counts, &fates, &slots, &shown, &discounts, &prices),
-        (Ok(_), true) => return refused(number, 9, &table, &sector, &counts, &fates, &slots, &shown, &discounts, &prices),
+        (Err(refusal), _) => {
+            return refused(number, refusal, &table, &sector, &counts, &fates, &slots, &shown, &discounts, &prices)
+        }
+        (Ok(_), true) => {
+            return refused(number, 9, &table, &sector, &counts, &fates, &slots, &shown, &discounts, &prices)
+        }
         (Ok(taken_in), false) => taken_in,
     };
     hold(number == 0, &format!("gave {number}, expected to be served"))?;
@@ -110,7 +114,10 @@ pub fn serve(g: &mut Generator, scene: &mut Scene, tally: &mut Tally) -> Judged<
     };
     for report in (0..count).filter(|&report| fates.lend()[report] == PAIRED) {
         let slot = slots.lend()[report];
-        let row = due.slots().binary_search(&slot).map_err(|_| format!("report {report} is paired with slot {slot}, not due"))?;
+        let row = due
+            .slots()
+            .binary_search(&slot)
+            .map_err(|_| format!("report {report} is paired with slot {slot}, not due"))?;
         hold(certificate.pairing[row] == NONE, "a slot is paired twice")?;
         certificate.pairing[row] = report as u32;
     }
@@ -180,13 +187,17 @@ fn refused(
     hold(sector.untouched(), "refused, but the sector changed")?;
     hold(counts.untouched(), "refused, but the counts changed")?;
     let answers = [fates.untouched(), slots.untouched(), shown.untouched(), discounts.untouched(), prices.untouched()];
-    hold(answers == [true; 5], &format!("refused, but answers changed (fates, slots, shown, discounts, prices kept: {answers:?})"))?;
+    hold(
+        answers == [true; 5],
+        &format!("refused, but answers changed (fates, slots, shown, discounts, prices kept: {answers:?})"),
+    )?;
     Ok(number)
 }
 
 /// The pairing is a best one of the reference's sheet, and its numbers show it.
 fn best(due: &Due, reports: usize, sheet: &[u32], certificate: &Certificate, tally: &mut Tally) -> Judged<()> {
-    let answer = check_pairing(due.count, reports, sheet, &certificate.pairing, &certificate.prices, &certificate.discounts);
+    let answer =
+        check_pairing(due.count, reports, sheet, &certificate.pairing, &certificate.prices, &certificate.discounts);
     hold(answer == 0, &format!("the check says {answer} to the pairing, prices and discounts"))?;
     let (mut pairing, mut prices, mut discounts) = (vec![0; due.count], vec![0; due.count], vec![0; reports]);
     pair_sheet(due.count, reports, sheet, &mut pairing, &mut prices, &mut discounts);
@@ -199,7 +210,14 @@ fn best(due: &Due, reports: usize, sheet: &[u32], certificate: &Certificate, tal
 }
 
 /// The two further calls together give what the sector call gave.
-fn agree(g: &mut Generator, scene: &Scene, sheet: &[u32], due: &Due, given: &Certificate, tally: &mut Tally) -> Judged<()> {
+fn agree(
+    g: &mut Generator,
+    scene: &Scene,
+    sheet: &[u32],
+    due: &Due,
+    given: &Certificate,
+    tally: &mut Tally,
+) -> Judged<()> {
     let extra = g.index(3);
     let theirs = score(g, scene, sheet.len() + extra, tally)?.ok_or("the sheet is refused, the sector served")?;
     hold(theirs == sheet, "the sheet differs")?;
@@ -258,7 +276,7 @@ pub type Rooms = [usize; 4];
 fn lent_cells(g: &mut Generator, sheet: &Sheet, room: usize) -> Guarded<u32> {
     let mut cells: Vec<u32> = sheet.cells.iter().copied().take(room).collect();
     while cells.len() < room {
-        cells.push(g.next() as u32);
+        cells.push(g.draw() as u32);
     }
     Guarded::holding(&cells, g)
 }
@@ -288,7 +306,9 @@ pub fn pair(g: &mut Generator, sheet: &Sheet, rooms: Rooms, tally: &mut Tally) -
     let (best, given) = (worth(reports, cells.lend(), ours), worth(reports, cells.lend(), theirs));
     hold(best == given, &format!("(pairs, sum) {given:?}, but the best is {best:?}"))?;
     tally.other_best += (ours != theirs) as u64;
-    for (list, used, name) in [(&pairing, tracks, "pairing"), (&prices, tracks, "prices"), (&discounts, reports, "discounts")] {
+    for (list, used, name) in
+        [(&pairing, tracks, "pairing"), (&prices, tracks, "prices"), (&discounts, reports, "discounts")]
+    {
         hold(list.reads(&list.lend()[..used]), &format!("room beyond the {name} was written to"))?;
     }
     Ok(0)

@@ -341,7 +341,7 @@ fn move_report(g: &mut Generator, scene: &mut Scene) {
         0 => first.wrapping_sub(1),
         1 => first.wrapping_add(2_048),
         2 => report.azimuth.wrapping_add(32_768),
-        _ => g.next() as u16,
+        _ => g.draw() as u16,
     };
     scene.batch[place] = report.pack();
 }
@@ -496,7 +496,13 @@ pub fn damage_sheet(g: &mut Generator, sheet: &mut Sheet) {
 }
 
 /// Damage to a right pairing or its numbers.
-pub fn damage_numbers(g: &mut Generator, sheet: &Sheet, pairing: &mut [u32], prices: &mut [u32], discounts: &mut [u32]) {
+pub fn damage_numbers(
+    g: &mut Generator,
+    sheet: &Sheet,
+    pairing: &mut [u32],
+    prices: &mut [u32],
+    discounts: &mut [u32],
+) {
     let (tracks, reports) = (sheet.tracks, sheet.reports);
     let track = some_place(g, tracks);
     let report = some_place(g, reports);

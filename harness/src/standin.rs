@@ -146,7 +146,8 @@ fn faulty(
         Ok(taken_in) => taken_in,
         Err(8) if fault == 31 && short => return 9,
         Err(6) if fault == 30 => {
-            let first_wrong = batch.iter().map(Report::unpack).find(|r| !r.well_formed() || sector_of(r.azimuth) != *sector);
+            let first_wrong =
+                batch.iter().map(Report::unpack).find(|r| !r.well_formed() || sector_of(r.azimuth) != *sector);
             return if first_wrong.is_some_and(|report| report.well_formed()) { 7 } else { 6 };
         }
         Err(number) => return number,
@@ -226,7 +227,9 @@ fn spoil_sheet(fault: usize, due: &Due, batch: &[ReportBytes], site: Site, sheet
 fn nearest_first(reports: usize, sheet: &[u32], pairing: &mut [u32]) {
     let mut taken = vec![false; reports];
     for (track, choice) in pairing.iter_mut().enumerate() {
-        let nearest = (0..reports).filter(|&r| !taken[r] && sheet[track * reports + r] != NONE).min_by_key(|&r| sheet[track * reports + r]);
+        let nearest = (0..reports)
+            .filter(|&r| !taken[r] && sheet[track * reports + r] != NONE)
+            .min_by_key(|&r| sheet[track * reports + r]);
         *choice = nearest.map_or(NONE, |report| report as u32);
         if let Some(report) = nearest {
             taken[report] = true;

@@ -50,8 +50,7 @@ fn best_by_trying(sheet: &Sheet) -> ((usize, u64), Vec<Vec<u32>>) {
         }
         for report in (0..sheet.reports as u32).chain([NONE]) {
             let free = report == NONE
-                || (!pairing.contains(&report)
-                    && sheet.cells[row * sheet.reports + report as usize] != NONE);
+                || (!pairing.contains(&report) && sheet.cells[row * sheet.reports + report as usize] != NONE);
             if free {
                 pairing.push(report);
                 place(sheet, row + 1, pairing, best);
@@ -248,9 +247,7 @@ fn nearest(n: i64, d: i64) -> i64 {
 /// What becomes of the table, by the sentences of "After pairing", from a pairing of slots.
 fn table_by_the_book(scene: &Scene, fates: &[u8], slots: &[u16]) -> Vec<SlotBytes> {
     let sector = scene.sector as i64;
-    let wait_for = |azimuth: u16| {
-        (16..=47i64).find(|j| (sector + j) % 32 == azimuth as i64 / 2_048).unwrap() as u8 - 1
-    };
+    let wait_for = |azimuth: u16| (16..=47i64).find(|j| (sector + j) % 32 == azimuth as i64 / 2_048).unwrap() as u8 - 1;
     let mut table = scene.table.clone();
     for (place, slot) in table.iter_mut().enumerate() {
         if slot[15] == 0 {

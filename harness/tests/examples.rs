@@ -357,9 +357,17 @@ fn refusals_in_order() {
     let no_sigma = Site { range_sigma: 16, azimuth_sigma: 0 };
 
     let many_bad = vec![bad_slot; 2_001];
-    let due_bad = { let mut t = vec![good_slot; 101]; t[100] = bad_slot; t };
+    let due_bad = {
+        let mut t = vec![good_slot; 101];
+        t[100] = bad_slot;
+        t
+    };
     let due_good = vec![good_slot; 101];
-    let too_many = { let mut b = vec![good; 101]; b[100] = bad_field; b };
+    let too_many = {
+        let mut b = vec![good; 101];
+        b[100] = bad_field;
+        b
+    };
     let mut wrong_both = vec![astray; 2];
     wrong_both[1] = bad_field;
     let cases: [(&[SlotBytes], u8, Site, &[ReportBytes], u8); 9] = [
@@ -461,7 +469,8 @@ fn one_call_by_hand() {
     assert_eq!(answer.discounts, [0; 5]);
     assert_eq!(answer.prices, [LEFT_OUT, counts.score_sum, 0, LEFT_OUT, 0]);
     assert_eq!(sector, 1);
-    let started = Track { range: 30_000, azimuth: 200, updates: 1, confidence: 3, quality: 2, wait: 31, ..Track::default() };
+    let started =
+        Track { range: 30_000, azimuth: 200, updates: 1, confidence: 3, quality: 2, wait: 31, ..Track::default() };
     assert_eq!(table[0], started.pack());
     assert_eq!(table[1], Track { updates: 3, wait: 31, ..shown }.pack());
     assert_eq!(table[2], Track { wait: 6, ..other }.pack());

@@ -193,7 +193,10 @@ fn measure_score(rounds: usize, scenes: &[Scene]) -> [f64; 2] {
         let mut size = [0; 2];
         let start = Instant::now();
         if contender == UNIT {
-            assert_eq!(border::score_sheet(&scene.table, scene.sector, scene.site, &scene.batch, &mut sheet, &mut size), 0);
+            assert_eq!(
+                border::score_sheet(&scene.table, scene.sector, scene.site, &scene.batch, &mut sheet, &mut size),
+                0
+            );
         } else {
             reference::score_sheet(&scene.table, scene.sector, scene.site, &scene.batch, &mut sheet).expect("a sheet");
         }
@@ -255,7 +258,9 @@ fn sheet_by(tracks: usize, reports: usize, mut cell: impl FnMut(usize, usize) ->
 
 /// The families of sheets, by name.
 fn families(g: &mut Generator) -> Vec<(&'static str, Vec<Sheet>)> {
-    let mut make = |make_one: &mut dyn FnMut(&mut Generator) -> Sheet| -> Vec<Sheet> { (0..INPUTS).map(|_| make_one(g)).collect() };
+    let mut make = |make_one: &mut dyn FnMut(&mut Generator) -> Sheet| -> Vec<Sheet> {
+        (0..INPUTS).map(|_| make_one(g)).collect()
+    };
     vec![
         ("sparse radar-like 60 x 80", make(&mut |g| sheet_of_scene(&radar_scene(g, 200, 60, 80)))),
         ("dense sector 100 x 100", make(&mut |g| sheet_of_scene(&dense_scene(g, 200, 100, 100)))),
@@ -285,7 +290,12 @@ fn engines_heading(title: &str) {
 
 fn engines_line(name: &str, [unit, plain, wide]: [f64; 3]) {
     let (to_plain, to_wide) = (unit / plain, unit / wide);
-    println!("{name:<36} {:>10.2} {:>10.2} {to_plain:>7.2} {:>10.2} {to_wide:>7.2}", unit / 1e3, plain / 1e3, wide / 1e3);
+    println!(
+        "{name:<36} {:>10.2} {:>10.2} {to_plain:>7.2} {:>10.2} {to_wide:>7.2}",
+        unit / 1e3,
+        plain / 1e3,
+        wide / 1e3
+    );
 }
 
 fn scenes(g: &mut Generator, make: fn(&mut Generator, usize, usize, usize) -> Scene, size: [usize; 3]) -> Vec<Scene> {

@@ -246,8 +246,15 @@ fn run_files(program: &str, seed: u64, tally: &mut Tally) -> Judged<()> {
         if printed != expected.as_bytes() {
             let path = std::env::temp_dir().join(format!("plotrun-{number}.scn"));
             let _ = std::fs::write(&path, &file);
-            let line = expected.as_bytes().split(|&b| b == b'\n').zip(printed.split(|&b| b == b'\n')).position(|(a, b)| a != b);
-            return Err(format!("file {number}: {program} prints something else from line {line:?} on; it is kept as {}", path.display()));
+            let line = expected
+                .as_bytes()
+                .split(|&b| b == b'\n')
+                .zip(printed.split(|&b| b == b'\n'))
+                .position(|(a, b)| a != b);
+            return Err(format!(
+                "file {number}: {program} prints something else from line {line:?} on; it is kept as {}",
+                path.display()
+            ));
         }
         tally.files += 1;
         tally.file_lines += expected.lines().count() as u64;
@@ -280,10 +287,16 @@ fn print_tally(tally: &Tally, seconds: f64) {
     }
     let [paired, coasted, dropped, started, weak, full, _] = tally.counts;
     println!("  served sectors: {paired} paired ({} shown), {coasted} coasted, {dropped} dropped, {started} started, {weak} weak, {full} full", tally.shown);
-    println!("  {} cells of sectors, {} of them admissible; most updates of a track: {}", tally.cells, tally.admissible, tally.most_updates);
+    println!(
+        "  {} cells of sectors, {} of them admissible; most updates of a track: {}",
+        tally.cells, tally.admissible, tally.most_updates
+    );
     println!("  {} best pairings other than the reference's own", tally.other_best);
     println!("  {} sectors where the three calls were held to agree", tally.agreements);
-    println!("  {} chains of {} calls in all, the longest of {}", tally.chains, tally.chained_calls, tally.longest_chain);
+    println!(
+        "  {} chains of {} calls in all, the longest of {}",
+        tally.chains, tally.chained_calls, tally.longest_chain
+    );
     if tally.files > 0 {
         println!("  {} files through the batch program, {} lines", tally.files, tally.file_lines);
     }

@@ -87,8 +87,8 @@ pub fn pair(
             let base = so_far - prices[track] as i32;
             let mut nearest = cheapest_leaving;
             let mut next = None;
-            for place in 0..open_count {
-                let report = open[place] as usize;
+            for (place, &report) in open[..open_count].iter().enumerate() {
+                let report = report as usize;
                 let through = base + (row[report] & AFFORDABLE) as i32 + discounts[report] as i32;
                 if through < distance[report] {
                     distance[report] = through;

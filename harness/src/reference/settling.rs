@@ -6,8 +6,7 @@ use super::{Counts, Due, FULL, NO_SLOT, PAIRED, STARTED, WEAK};
 use crate::reference::pairing::NONE;
 
 /// Tenths, by quality (2 and 3 are alike) and confidence.
-const A: [[i32; 8]; 3] =
-    [[6, 6, 6, 6, 6, 6, 6, 10], [6, 6, 6, 9, 9, 9, 9, 10], [6, 6, 6, 10, 9, 10, 10, 10]];
+const A: [[i32; 8]; 3] = [[6, 6, 6, 6, 6, 6, 6, 10], [6, 6, 6, 9, 9, 9, 9, 10], [6, 6, 6, 10, 9, 10, 10, 10]];
 const B: [[i32; 8]; 3] = [[3, 3, 3, 3, 3, 3, 3, 10], [3, 3, 3, 7, 6, 7, 7, 10], [3, 3, 3, 9, 6, 9, 9, 10]];
 
 /// a and b in tenths.
@@ -46,8 +45,8 @@ pub fn updated(track: &Track, report: &Report) -> Track {
     let scans = 10 * (track.misses as i32 + 1);
     let dr = track.range as i32 - report.range as i32;
     let da = azimuth_difference(track.azimuth, report.azimuth) as i32;
-    let range_speed = (track.range_speed as i32 - rounded(b * dr, scans))
-        .clamp(-MAX_RANGE_SPEED as i32, MAX_RANGE_SPEED as i32);
+    let range_speed =
+        (track.range_speed as i32 - rounded(b * dr, scans)).clamp(-MAX_RANGE_SPEED as i32, MAX_RANGE_SPEED as i32);
     let azimuth_speed = (track.azimuth_speed as i32 - rounded(b * da, scans))
         .clamp(-MAX_AZIMUTH_SPEED as i32, MAX_AZIMUTH_SPEED as i32);
     Track {
@@ -112,8 +111,7 @@ pub fn settle(
     let served_in = *sector;
     let waiting = |track: Track| Track { wait: calls_ahead(served_in, track.azimuth) - 1, ..track }.pack();
     let reports_all = reports.all();
-    let (fates, slots, shown) =
-        (&mut fates[..reports.count], &mut slots[..reports.count], &mut shown[..reports.count]);
+    let (fates, slots, shown) = (&mut fates[..reports.count], &mut slots[..reports.count], &mut shown[..reports.count]);
     fates.fill(0);
     slots.fill(NO_SLOT);
     shown.fill(0);
