@@ -1,7 +1,7 @@
 //! The reference behind the border, so that the comparison can itself be tested: with no fault it
-//! must pass, and with each of the faults below it must not. `PLOTUNIT_FAULT` chooses the fault.
+//! must pass, with another engine too, and with each of the faults below it must not.
+//! `PLOTUNIT_FAULT` chooses.
 
-use crate::reference::pairing::worth;
 use crate::reference::records::{sector_of, Report};
 use crate::reference::settling::settle;
 use crate::reference::*;
@@ -56,6 +56,9 @@ pub const FAULTS: [&str; 44] = [
     "misses are kept after an update",
     "the speed is held after it was added",
 ];
+
+/// No fault: the stand-in takes other best pairings and other prices than the reference.
+pub const ANOTHER_ENGINE: usize = 100;
 
 fn fault() -> usize {
     static FAULT: OnceLock<usize> = OnceLock::new();
@@ -176,7 +179,8 @@ fn faulty(
                 *report = NONE;
             }
         }),
-        33 => other_best(due.count, count, &sheet, &mut pairing),
+        33 => pair_backwards(due.count, count, &sheet, &mut pairing, &mut vec![0; due.count], &mut vec![0; count]),
+        ANOTHER_ENGINE => pair_backwards(due.count, count, &sheet, &mut pairing, &mut prices, &mut discounts),
         23 if due.count > 0 => prices[0] = prices[0].saturating_sub(1),
         24 if count > 0 => discounts[count - 1] += 1,
         _ => {}
@@ -237,15 +241,19 @@ fn nearest_first(reports: usize, sheet: &[u32], pairing: &mut [u32]) {
     }
 }
 
-/// A best pairing that comes of bringing the tracks in from last to first.
-fn other_best(tracks: usize, reports: usize, sheet: &[u32], pairing: &mut [u32]) {
+/// The pairing and numbers that come of bringing the tracks in from last to first.
+fn pair_backwards(
+    tracks: usize,
+    reports: usize,
+    sheet: &[u32],
+    pairing: &mut [u32],
+    prices: &mut [u32],
+    discounts: &mut [u32],
+) {
     let turned: Vec<u32> = (0..tracks).rev().flat_map(|track| sheet[track * reports..][..reports].to_vec()).collect();
-    let (mut prices, mut discounts) = (vec![0; tracks], vec![0; reports]);
-    let mut other = vec![NONE; tracks];
-    pairing::pair(tracks, reports, &turned, &mut other, &mut prices, &mut discounts);
-    other.reverse();
-    assert_eq!(worth(reports, sheet, &other), worth(reports, sheet, pairing));
-    pairing.copy_from_slice(&other);
+    pairing::pair(tracks, reports, &turned, pairing, prices, discounts);
+    pairing.reverse();
+    prices.reverse();
 }
 
 #[allow(clippy::too_many_arguments)]
@@ -379,6 +387,10 @@ pub unsafe extern "C" fn plot_pair_sheet(
     let prices = from_raw_parts_mut(prices, prices_len);
     let discounts = from_raw_parts_mut(discounts, discounts_len);
     let number = pair_sheet(tracks, reports, &cells, pairing, prices, discounts);
+    if fault() == ANOTHER_ENGINE && number == 0 {
+        let (p, q, d) = (&mut pairing[..tracks], &mut prices[..tracks], &mut discounts[..reports]);
+        pair_backwards(tracks, reports, &cells, p, q, d);
+    }
     if fault() == 36 && number == 0 && pairing_len > tracks {
         pairing[tracks] = NONE;
     }

@@ -270,7 +270,8 @@ fn run_program(program: &str, input: &[u8]) -> std::io::Result<Vec<u8>> {
     let feeder = std::thread::spawn(move || drop(stdin.write_all(&input)));
     let output = child.wait_with_output()?;
     let _ = feeder.join();
-    if !output.status.success() {
+    // Document 01 says nothing of exit codes; a program that was stopped has failed.
+    if output.status.code().is_none() {
         return Err(std::io::Error::other(format!("ended with {}", output.status)));
     }
     Ok(output.stdout)

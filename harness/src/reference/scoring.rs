@@ -134,7 +134,7 @@ impl Expectation {
         } else {
             return NONE;
         };
-        let doppler = (trust.weak || !self.doppler_agrees(report)) as u32;
+        let doppler = (trust.weak | !self.doppler_agrees(report)) as u32;
         zone + self.position(dr as i64, da as i64) * POSITION
             + doppler * DOPPLER
             + self.standing[trust.confident as usize][trust.good as usize]
@@ -144,7 +144,7 @@ impl Expectation {
     fn doppler_agrees(&self, report: &Report) -> bool {
         let high = (self.high - report.high as i32).abs();
         let low = (self.low - report.low as i32).abs();
-        high.min(180 - high) <= DOPPLER_TOLERANCE && low.min(140 - low) <= DOPPLER_TOLERANCE
+        (high.min(180 - high) <= DOPPLER_TOLERANCE) & (low.min(140 - low) <= DOPPLER_TOLERANCE)
     }
 
     /// 4 x the root of (dr/range sigma)^2 + (da/azimuth sigma)^2, nearest whole number, halves up, at
