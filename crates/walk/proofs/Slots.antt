@@ -45,5 +45,5 @@ unfolding missedSlot unpairedBytes
 missed-dropped s slot e = rw e
 
 -- a well-formed track's speeds fit sixteen bits
-pub speeds-fit : {t : Track} {s : ℕ} → WellFormed t s → (natAbs (t .«range_speed» .v) ≤ halfTurn) × (natAbs (t .«azimuth_speed» .v) ≤ halfTurn)
+pub speeds-fit : {t : Track} {s : ℕ} → WellFormed t s → (natAbs (t .«range_speed» .v) < halfTurn) × (natAbs (t .«azimuth_speed» .v) < halfTurn)
 speeds-fit w = (omega (arith, w .range-speed-in), omega (arith, w .azimuth-speed-in))
