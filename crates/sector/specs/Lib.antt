@@ -1,3 +1,5 @@
 -- The sector call.
 pub mod Sum
+pub mod Steps
 pub mod Serve
+pub mod Settled

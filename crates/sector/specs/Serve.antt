@@ -71,39 +71,50 @@ pub record Choice (i : Input) (c : Chosen) : Type 0 where
 abbrev pub reportsIn : Input → Handed
 reportsIn i = handed (dueSlots (i .table)) (i .sector) (i .batch)
 
--- a fate a report
-unfoldable pub fatesIn : Input → Chosen → List ℕ
-fatesIn i c = fatesOf (reportsIn i) (c .pairing) (settledTable i (c .pairing))
+-- a fate a report; P is the pairing
+unfoldable pub fatesIn : Input → List ℕ → List ℕ
+fatesIn i P = fatesOf (reportsIn i) P (settledTable i P)
+
+-- counts of fates, with those of the due tracks without a pair and the sum of pair scores
+unfoldable pub tally : List ℕ → (coasted dropped scores : ℕ) → Counts
+tally fates coasted dropped scores = record {
+  paired = countOf paired fates;
+  coasted = coasted;
+  dropped = dropped;
+  started = countOf started fates;
+  weak = countOf weak fates;
+  full = countOf full fates;
+  «score_sum» = scores;
+}
 
 -- counts of paired, coasted, dropped, started, weak, full; the sum of pair scores
-unfoldable pub countsOf : Input → Chosen → Counts
-countsOf i c = record {
-  paired = countOf paired (fatesIn i c);
-  coasted = coastedCount i (tracksOf i) (c .pairing);
-  dropped = droppedCount i (tracksOf i) (c .pairing);
-  started = countOf started (fatesIn i c);
-  weak = countOf weak (fatesIn i c);
-  full = countOf full (fatesIn i c);
-  «score_sum» = scoreSum (sectorSheet i) (at (c .pairing));
-}
+unfoldable pub countsOf : Input → List ℕ → Counts
+countsOf i P = tally (fatesIn i P) (coastedCount i (tracksOf i) P) (droppedCount i (tracksOf i) P) (scoreSum (sectorSheet i) (at P))
 
 -- the table is settled, then reports start tracks; the sector moves on by one; room beyond reports and slots keeps its bytes
 unfoldable pub afterOf : Input → Lent → Chosen → Lent
 afterOf i l c = record {
   table = startedTable (reportsIn i) (c .pairing) (settledTable i (c .pairing));
   sector = nextSector (i .sector);
-  fates = fatesIn i c ++ drop (reportsOf i) (l .fates);
+  fates = fatesIn i (c .pairing) ++ drop (reportsOf i) (l .fates);
   slots = slotsOf (reportsIn i) (c .pairing) (settledTable i (c .pairing)) ++ drop (reportsOf i) (l .slots);
   shown = shownOf (reportsIn i) (c .pairing) (settledTable i (c .pairing)) ++ drop (reportsOf i) (l .shown);
   discounts = c .discounts ++ drop (reportsOf i) (l .discounts);
   prices = slotPrices i (c .prices) ++ drop (length (i .table)) (l .prices);
 }
 
-pub record ServedAs (i : Input) (l l′ : Lent) (answer : Served) : Type 0 where
+-- the counts, and all that was lent before and after
+pub record ServedWith (i : Input) (l l′ : Lent) (counts : Counts) : Type 0 where
   pub chosen : Chosen
   pub choice : Choice i chosen
-  pub answered : answer ≡ Done (countsOf i chosen)
+  pub counted : counts ≡ countsOf i (chosen .pairing)
   pub left : l′ ≡ afterOf i l chosen
+
+-- the answer of a call that is served
+pub record ServedAs (i : Input) (l l′ : Lent) (answer : Served) : Type 0 where
+  pub counts : Counts
+  pub done : answer ≡ Done counts
+  pub rest : ServedWith i l l′ counts
 
 -- ---- the whole promise: l before the call, l′ after it
 

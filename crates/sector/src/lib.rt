@@ -1,11 +1,18 @@
 // The sector call: one call serves one sector.
 ghost use mathlib.Core.Path.{_≡_};
-ghost use Prim.Native.Nat.{_*_, _<_, _≤_};
-ghost use lib.ListN.{length};
+ghost use mathlib.Core.List.{_++_};
+ghost use Prim.Native.Nat.{_<_, _≤_};
+ghost use lib.ListN.{length, take, drop};
+ghost use Rattle.numbers.specs.Sectors.{nextSector};
+ghost use Rattle.intake.specs.Refusals.{input, mostReports, Ready};
+ghost use Rattle.sector.specs.Steps.{PairedUp, Room};
+ghost use Rattle.sector.specs.Settled.{SettledAs};
+ghost use Rattle.sector.specs.Serve.{lent, handedIn, tally, ServedWith, ServesSector};
 ghost use Rattle.matching.specs.Pairing.{at, scoreEnd, sheetOf, scoreOr, scoreSum};
 ghost use Rattle.sector.specs.Sum.{Summable};
 
 use records::Site;
+use walk::Missed;
 
 pub struct Counts {
     pub paired: u32,
@@ -53,4 +60,48 @@ fn score_sum(sheet: &[u32], reports: usize, pairing: &[u32]) -> u32
         track += 1;
     }
     sum
+}
+
+// The counts of the answer.
+fn count_all(fates: &[u8], reports: usize, missed: Missed, scores: u32) -> Counts
+    requires { ⌜ (reports ≤ length (now fates)) × (reports ≤ mostReports) ⌝ }
+    ensures { λ r. ⌜ r ≡ tally (take reports (now (fates .entry))) (missed .coasted) (missed .dropped) scores ⌝ }
+{
+    Counts {
+        paired: fates::count_fate(fates, reports, fates::PAIRED),
+        coasted: missed.coasted,
+        dropped: missed.dropped,
+        started: fates::count_fate(fates, reports, fates::STARTED),
+        weak: fates::count_fate(fates, reports, fates::WEAK),
+        full: fates::count_fate(fates, reports, fates::FULL),
+        score_sum: scores,
+    }
+}
+
+// After pairing: the table is settled, then the reports are told, and all is counted.
+fn settle(
+    table: &mut [[u8; records::SLOT_BYTES]],
+    sector: u8,
+    site: Site,
+    batch: &[[u8; records::REPORT_BYTES]],
+    due: &[usize],
+    sheet: &[u32],
+    pairing: &[u32],
+    track_prices: &[u32],
+    fates: &mut [u8],
+    slots: &mut [u16],
+    shown: &mut [u8],
+    prices: &mut [u32],
+) -> Counts
+    requires { ⌜ Ready (input (now table) sector site (now batch)) ⌝ }
+    requires { ⌜ PairedUp (input (now table) sector site (now batch)) (now due) (now sheet) (now pairing) (now «track_prices») ⌝ }
+    requires { ⌜ Room (length (now table)) (length (now batch)) (length (now fates)) (length (now slots)) (length (now shown)) (length (now batch)) (length (now prices)) ⌝ }
+    ensures { λ r. ⌜ SettledAs (input (now (table .entry)) sector site (now (batch .entry))) (now (pairing .entry)) (now («track_prices» .entry)) (now (fates .entry)) (now (slots .entry)) (now (shown .entry)) (now (prices .entry)) (now (table .exit)) (now (fates .exit)) (now (slots .exit)) (now (shown .exit)) (now (prices .exit)) r ⌝ }
+{
+    let reports = batch.len();
+    let scores = score_sum(sheet, reports, pairing);
+    let missed = walk::count_missed(table, sector, site, batch, due, pairing);
+    walk::settle_table(table, sector, site, batch, pairing, track_prices, prices);
+    fates::tell_reports(table, sector, batch, due, pairing, fates, slots, shown);
+    count_all(fates, reports, missed, scores)
 }

@@ -1,0 +1,70 @@
+use borrow.Author.Needs.{needs}
+use Rattle.sector.proofs.settle.Statement.{statement}
+use Rattle.sector.proofs.settle.Tie as tie
+use Rattle.sector.proofs.settle.Reads as reads
+use Rattle.sector.proofs.settle.Lts as lts
+use Rattle.fates.proofs.tell_reports.Reads as tell-reports-reads
+use Rattle.sector.proofs.count_all.Reads as count-all-reads
+use Rattle.sector.proofs.score_sum.Reads as score-sum-reads
+use Rattle.walk.proofs.count_missed.Reads as count-missed-reads
+use Rattle.walk.proofs.settle_table.Reads as settle-table-reads
+
+-- src/lib.rt:102:9
+score-sum-requires : tie.Need-score-sum-requires
+score-sum-requires c κs = ?
+
+-- src/lib.rt:103:9
+count-missed-requires : tie.Need-count-missed-requires
+count-missed-requires c κs = ?
+
+-- src/lib.rt:104:5
+settle-table-requires : tie.Need-settle-table-requires
+settle-table-requires c κs = ?
+
+-- src/lib.rt:105:5
+tell-reports-requires : tie.Need-tell-reports-requires
+tell-reports-requires c κs = ?
+
+-- src/lib.rt:106:5
+count-all-requires : tie.Need-count-all-requires
+count-all-requires c κs = ?
+
+-- src/lib.rt:82:1
+same-length : tie.Need-same-length
+same-length c = search needs
+
+-- src/lib.rt:82:1
+same-length-2 : tie.Need-same-length-2
+same-length-2 c = search needs
+
+-- src/lib.rt:82:1
+same-length-3 : tie.Need-same-length-3
+same-length-3 c = search needs
+
+-- src/lib.rt:82:1
+same-length-4 : tie.Need-same-length-4
+same-length-4 c = search needs
+
+-- src/lib.rt:82:1
+same-length-5 : tie.Need-same-length-5
+same-length-5 c = search needs
+
+-- src/lib.rt:82:1
+returns : tie.Need-returns
+returns c = ?
+
+pub settle-spec : {M : Type 1} → statement M
+settle-spec =
+    tie.close
+    (tie.spec
+    score-sum-requires
+    count-missed-requires
+    settle-table-requires
+    tell-reports-requires
+    count-all-requires
+    same-length
+    same-length-2
+    same-length-3
+    same-length-4
+    same-length-5
+    returns)
