@@ -1,20 +1,44 @@
--- What the answers say of the reports: each has one of four fates, and is shown only as a part of a settled track. Assumes nothing.
+-- What the answers say of the reports: each has one of four fates, and is shown exactly when its track has updates enough. Assumes nothing.
 use Prim.Native.Nat.{ℕ, suc, _+_, _≤_, _<_}
 use mathlib.Core.Path.{_≡_, refl, _∙_}
 use mathlib.Core.Bool.{Bool, true, false, cond}
-use mathlib.Core.List.{List, [], _∷_}
+use mathlib.Core.List.{List, [], _∷_, _++_}
 use native.Mathlib.Omega.{arith}
 use borrow.Author.Tests.{leb-true, le-leb, lt-ltb, ltb-true}
 use lib.Dec.{eqb, leb, ltb}
-use lib.ListN.{length, getD}
-use Rattle.laws.specs.Lists.{indicesFrom}
+use lib.ListN.{length, getD, take}
+use lib.Seq.{take-at}
+use Rattle.laws.specs.Lists.{indicesFrom, outs}
 use Rattle.laws.proofs.Listed.{length-listed}
 use Rattle.laws.proofs.Fold.{length-outs}
 use Rattle.records.specs.Fields.{isWeak}
 use Rattle.records.specs.Bytes.{trackOf, reportOf}
-use Rattle.fates.specs.Fates.{paired, started, weak, full, noSlot, shownFrom, Handed, isFree, freeSlot, ownerOf, shownMark, slotOf, toldPaired, toldUnpaired, toldOf, afterReport, reportNumbers, fatesOf, shownOf, countOf}
+use Rattle.fates.specs.Fates.{paired, started, weak, full, noSlot, shownFrom, Handed, isFree, freeSlot, ownerOf, shownMark, slotOf, toldPaired, toldUnpaired, toldOf, afterReport, reportNumbers, fatesOf, slotsOf, shownOf, countOf}
 use Rattle.fates.proofs.Loops.{numbers, outs-at, count-from}
+use Rattle.fates.proofs.Telling.{fateOut, slotOut, shownOut}
 use Rattle.fates.proofs.Starts.{tableAt, held-at}
+
+-- ---- an answer a report
+
+module _ (h : Handed) (P : List ℕ) (table : List (List ℕ)) where
+  answer-each : (out : ℕ → List (List ℕ) → ℕ) → length (outs (afterReport h P) out (numbers (length (h .batch))) table) ≡ length (h .batch)
+  answer-each out = length-outs (afterReport h P) out (numbers (length (h .batch))) table ∙ length-listed (length (h .batch)) (λ j. j)
+
+  pub length-fates : length (fatesOf h P table) ≡ length (h .batch)
+  unfolding fatesOf reportNumbers
+  length-fates = answer-each (fateOut h P)
+
+  pub length-slots : length (slotsOf h P table) ≡ length (h .batch)
+  unfolding slotsOf reportNumbers
+  length-slots = answer-each (slotOut h P)
+
+  pub length-shown : length (shownOf h P table) ≡ length (h .batch)
+  unfolding shownOf reportNumbers
+  length-shown = answer-each (shownOut h P)
+
+  -- the fates that are counted are those of the reports, whatever lies beyond them
+  pub fates-taken : (rest : List ℕ) → take (length (h .batch)) (fatesOf h P table ++ rest) ≡ fatesOf h P table
+  fates-taken rest = take-at (fatesOf h P table) rest (length (h .batch)) length-fates
 
 -- ---- one fate each
 
@@ -35,13 +59,9 @@ told-fate h P j table = go (ltb (ownerOf P j) (length P)) (isWeak (reportOf (get
     go false false true = is-full
     go false false false = is-started
 
-pub length-fates : (h : Handed) (P : List ℕ) (table : List (List ℕ)) → length (fatesOf h P table) ≡ length (h .batch)
-unfolding fatesOf reportNumbers
-length-fates h P table = length-outs _ _ (numbers (length (h .batch))) table ∙ length-listed (length (h .batch)) (λ j. j)
-
 pub fate-of-each : (h : Handed) (P : List ℕ) (table : List (List ℕ)) (j : ℕ) → j < length (h .batch) → Fate (getD (fatesOf h P table) j 0)
 unfolding fatesOf reportNumbers
-fate-of-each h P table j l = rw (outs-at (afterReport h P) (λ j t. toldOf h P j t .fate) (length (h .batch)) (λ j. j) table j 0 l) (told-fate h P j (tableAt h P j table))
+fate-of-each h P table j l = rw (outs-at (afterReport h P) (fateOut h P) (length (h .batch)) (λ j. j) table j 0 l) (told-fate h P j (tableAt h P j table))
 
 -- the first of a list counts 1 where it has the fate
 count-cons : (fate f : ℕ) (fs : List ℕ) → countOf fate (f ∷ fs) ≡ cond (eqb fate f) 1 0 + countOf fate fs
@@ -92,14 +112,14 @@ told-shown h P j table = go (ltb (ownerOf P j) (length P)) (isWeak (reportOf (ge
 
 module _ (h : Handed) (P : List ℕ) (table : List (List ℕ)) (j : ℕ) (here : j < length (h .batch)) where
   -- the pairing left a track in the slot of a paired report
-  abbrev TrackThere : Type 0
+  abbrev pub TrackThere : Type 0
   TrackThere = ownerOf P j < length P → isFree (getD table (slotOf h P j) []) ≡ false
 
   -- the shown mark depends on the table as pairing left it: no report before this one touched the slot
   pub shown-at : TrackThere → getD (shownOf h P table) j 0 ≡ cond (ltb (ownerOf P j) (length P)) (shownMark (getD table (slotOf h P j) [])) 0
   unfolding shownOf reportNumbers
   shown-at there =
-      outs-at (afterReport h P) (λ j t. toldOf h P j t .shown) (length (h .batch)) (λ j. j) table j 0 here
+      outs-at (afterReport h P) (shownOut h P) (length (h .batch)) (λ j. j) table j 0 here
       ∙ told-shown h P j (tableAt h P j table)
       ∙ go (ltb (ownerOf P j) (length P)) refl
     where

@@ -28,7 +28,7 @@ use Rattle.fates.proofs.Loops.{numbers, all-keep}
 
 -- a report leaves the table as it is, or starts its track in the lowest free slot: what both keep, it keeps
 module _ (Q : List (List ℕ) → Type 0) (h : Handed) (P : List ℕ) (j : ℕ) (table : List (List ℕ)) where
-  abbrev newSlot : List ℕ
+  abbrev pub newSlot : List ℕ
   newSlot = bytesOf (startedOf (reportOf (getD (h .batch) j [])) (h .sector))
 
   pub report-keeps : Q table → Q (set table (freeSlot table) newSlot) → Q (afterReport h P j table)

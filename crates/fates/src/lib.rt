@@ -87,9 +87,11 @@ fn tell_unpaired(
 ) -> Told
     requires { ⌜ (length (now table) ≤ mostSlots) × (sector < sectors) × (free ≡ freeSlot (now table)) ⌝ }
     ensures { λ r. ⌜ r ≡ toldUnpaired p (now (table .entry)) ⌝ }
-    ensures { λ r. ⌜ now (table .exit) ≡ afterUnpaired p sector (now (table .entry)) ⌝ }
+    ensures { λ _. ⌜ now (table .exit) ≡ afterUnpaired p sector (now (table .entry)) ⌝ }
 {
-    let fate = first_fate(records::is_weak(p), WEAK, table.len() <= free, FULL);
+    let weak = records::is_weak(p);
+    let full = table.len() <= free;
+    let fate = first_fate(weak, WEAK, full, FULL);
     if fate != STARTED {
         return Told {
             fate,
@@ -118,7 +120,7 @@ fn tell_report(
     requires { ⌜ Tellable (handed (now due) sector (now batch)) (now pairing) (now table) ⌝ }
     requires { ⌜ (free ≡ freeSlot (now table)) × (j < length (now batch)) ⌝ }
     ensures { λ r. ⌜ r ≡ toldOf (handed (now (due .entry)) sector (now (batch .entry))) (now (pairing .entry)) j (now (table .entry)) ⌝ }
-    ensures { λ r. ⌜ now (table .exit) ≡ afterReport (handed (now (due .entry)) sector (now (batch .entry))) (now (pairing .entry)) j (now (table .entry)) ⌝ }
+    ensures { λ _. ⌜ now (table .exit) ≡ afterReport (handed (now (due .entry)) sector (now (batch .entry))) (now (pairing .entry)) j (now (table .entry)) ⌝ }
 {
     let i = owner_of(pairing, j as u32);
     if i < pairing.len() {

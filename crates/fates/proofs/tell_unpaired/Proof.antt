@@ -13,7 +13,7 @@ first-fate-requires c κs = search needs
 
 returns : tie.Need-returns
 returns c =
-    let u = untracked _ _ _ (c .before .before .is-weak .ensures) (c .before .before .before .pre .2) (c .before .first-fate .ensures) (c .if1 .taken) in
+    let u = untracked (c .before .before .before .args .p) (c .before .before .before .args .sector) (c .before .before .before .args .table .now) (c .before .before .is-weak .ensures) (c .before .before .before .pre .2) (c .before .first-fate .ensures) (c .if1 .taken) in
     (u .told, u .after)
 
 started-requires : tie.Need-started-requires
@@ -23,14 +23,14 @@ pack-requires : tie.Need-pack-requires
 unfolding startedOf
 pack-requires c κs = rw (c .started .ensures) (omega arith)
 
-mul-t7 : tie.Need-mul-t7
-mul-t7 c = omega (arith, c .before .before .before .before .before .pre .0, tracked (c .before .before .before .before .before .args .p) (c .before .before .before .before .before .args .sector) (c .before .before .before .before .before .args .table .now) (c .before .before .before .before .is-weak .ensures) (c .before .before .before .before .before .pre .2) (c .before .before .before .first-fate .ensures) (c .before .before .if1 .left) .room)
+mul-t8 : tie.Need-mul-t8
+mul-t8 c = omega (arith, c .before .before .before .before .before .pre .0, tracked (c .before .before .before .before .before .args .p) (c .before .before .before .before .before .args .sector) (c .before .before .before .before .before .args .table .now) (c .before .before .before .before .is-weak .ensures) (c .before .before .before .before .before .pre .2) (c .before .before .before .first-fate .ensures) (c .before .before .if1 .left) .room)
 
 slice-set-from-table : tie.Need-slice-set-from-table
 slice-set-from-table c = tracked (c .before .before .before .before .before .args .p) (c .before .before .before .before .before .args .sector) _ (c .before .before .before .before .is-weak .ensures) (c .before .before .before .before .before .pre .2) (c .before .before .before .first-fate .ensures) (c .before .before .if1 .left) .room
 
-cast-t12 : tie.Need-cast-t12
-cast-t12 c = omega (arith, c .before .before .before .before .before .pre .0, tracked (c .before .before .before .before .before .args .p) (c .before .before .before .before .before .args .sector) (c .before .before .before .before .before .args .table .now) (c .before .before .before .before .is-weak .ensures) (c .before .before .before .before .before .pre .2) (c .before .before .before .first-fate .ensures) (c .before .before .if1 .left) .room)
+cast-t13 : tie.Need-cast-t13
+cast-t13 c = omega (arith, c .before .before .before .before .before .pre .0, tracked (c .before .before .before .before .before .args .p) (c .before .before .before .before .before .args .sector) (c .before .before .before .before .before .args .table .now) (c .before .before .before .before .is-weak .ensures) (c .before .before .before .before .before .pre .2) (c .before .before .before .first-fate .ensures) (c .before .before .if1 .left) .room)
 
 same-length : tie.Need-same-length
 same-length c = search needs
@@ -49,8 +49,8 @@ tell-unpaired-spec =
     returns
     started-requires
     pack-requires
-    mul-t7
+    mul-t8
     slice-set-from-table
-    cast-t12
+    cast-t13
     same-length
     returns-2)
