@@ -1,2 +1,3 @@
 -- Laws of the sector call.
 pub mod Summing
+pub mod Stepping

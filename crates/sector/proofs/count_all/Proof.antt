@@ -1,3 +1,4 @@
+use Rattle.sector.specs.Serve.{tally}
 use borrow.Author.Needs.{needs}
 use Rattle.sector.proofs.count_all.Statement.{statement}
 use Rattle.sector.proofs.count_all.Tie as tie
@@ -23,7 +24,8 @@ count-fate-requires-4 c κs = search needs
 
 -- src/lib.rt:66:1
 returns : tie.Need-returns
-returns c = ?
+unfolding tally
+returns c = rw (c .before .before .before .count-fate .ensures, c .before .before .count-fate2 .ensures, c .before .count-fate3 .ensures, c .count-fate4 .ensures)
 
 pub count-all-spec : {M : Type 1} → statement M
 count-all-spec =
