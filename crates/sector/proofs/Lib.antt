@@ -1,3 +1,6 @@
 -- Laws of the sector call.
 pub mod Summing
 pub mod Stepping
+pub mod Choosing
+pub mod Serving
+pub mod Lists

@@ -1,11 +1,11 @@
 // The sector call: one call serves one sector.
 ghost use mathlib.Core.Path.{_≡_};
 ghost use mathlib.Core.List.{_++_};
-ghost use Prim.Native.Nat.{_<_, _≤_};
+ghost use Prim.Native.Nat.{_*_, _<_, _≤_};
 ghost use lib.ListN.{length, take, drop};
 ghost use Rattle.numbers.specs.Sectors.{nextSector};
-ghost use Rattle.intake.specs.Refusals.{input, mostReports, Ready};
-ghost use Rattle.sector.specs.Steps.{PairedUp, Room};
+ghost use Rattle.intake.specs.Refusals.{input, mostDue, mostReports, Ready};
+ghost use Rattle.sector.specs.Steps.{Pairable, PairedUp, PairedOff, Room};
 ghost use Rattle.sector.specs.Settled.{SettledAs};
 ghost use Rattle.sector.specs.Serve.{lent, handedIn, tally, ServedWith, ServesSector};
 ghost use Rattle.matching.specs.Pairing.{at, scoreEnd, sheetOf, scoreOr, scoreSum};
@@ -13,6 +13,9 @@ ghost use Rattle.sector.specs.Sum.{Summable};
 
 use records::Site;
 use walk::Missed;
+
+// A cell for each pair of the largest sector.
+const MOST_CELLS: usize = intake::MOST_DUE * intake::MOST_REPORTS;
 
 pub struct Counts {
     pub paired: u32,
@@ -104,4 +107,134 @@ fn settle(
     walk::settle_table(table, sector, site, batch, pairing, track_prices, prices);
     fates::tell_reports(table, sector, batch, due, pairing, fates, slots, shown);
     count_all(fates, reports, missed, scores)
+}
+
+// Score and pair: the sheet's cells, a report number and a price a due track, a discount a report.
+fn pair_up(
+    table: &[[u8; records::SLOT_BYTES]],
+    sector: u8,
+    site: Site,
+    batch: &[[u8; records::REPORT_BYTES]],
+    due: &[usize],
+    sheet: &mut [u32],
+    pairing: &mut [u32],
+    track_prices: &mut [u32],
+    discounts: &mut [u32],
+)
+    requires { ⌜ Ready (input (now table) sector site (now batch)) ⌝ }
+    requires { ⌜ Pairable (input (now table) sector site (now batch)) (now due) (now sheet) (now pairing) (now «track_prices») (now discounts) ⌝ }
+    ensures { λ _. ⌜ PairedOff (input (now (table .entry)) sector site (now (batch .entry))) (now (due .entry)) (now (sheet .exit)) (now (pairing .exit)) (now («track_prices» .exit)) (now (discounts .entry)) (now (discounts .exit)) ⌝ }
+{
+    scoresheet::fill_rows(table, sector, site, batch, due, sheet);
+    engine::pair_sheet(due.len(), batch.len(), sheet, pairing, track_prices, discounts);
+}
+
+// A call that is refused by nothing, with its due list and its working lists: score, pair, settle.
+fn serve_due(
+    table: &mut [[u8; records::SLOT_BYTES]],
+    sector: u8,
+    site: Site,
+    batch: &[[u8; records::REPORT_BYTES]],
+    due: &[usize],
+    sheet: &mut [u32],
+    pairing: &mut [u32],
+    track_prices: &mut [u32],
+    fates: &mut [u8],
+    slots: &mut [u16],
+    shown: &mut [u8],
+    discounts: &mut [u32],
+    prices: &mut [u32],
+) -> Counts
+    requires { ⌜ Ready (input (now table) sector site (now batch)) ⌝ }
+    requires { ⌜ Pairable (input (now table) sector site (now batch)) (now due) (now sheet) (now pairing) (now «track_prices») (now discounts) ⌝ }
+    requires { ⌜ Room (length (now table)) (length (now batch)) (length (now fates)) (length (now slots)) (length (now shown)) (length (now discounts)) (length (now prices)) ⌝ }
+    ensures { λ r. ⌜ ServedWith (input (now (table .entry)) sector site (now (batch .entry)))
+        (lent (now (table .entry)) sector (now (fates .entry)) (now (slots .entry)) (now (shown .entry)) (now (discounts .entry)) (now (prices .entry)))
+        (lent (now (table .exit)) (nextSector sector) (now (fates .exit)) (now (slots .exit)) (now (shown .exit)) (now (discounts .exit)) (now (prices .exit))) r ⌝ }
+{
+    pair_up(
+        table,
+        sector,
+        site,
+        batch,
+        due,
+        sheet,
+        pairing,
+        track_prices,
+        discounts,
+    );
+    settle(
+        table,
+        sector,
+        site,
+        batch,
+        due,
+        sheet,
+        pairing,
+        track_prices,
+        fates,
+        slots,
+        shown,
+        prices,
+    )
+}
+
+// Lists of its own for a call: the sheet, and an entry a due track.
+fn blank_sheet() -> [u32; MOST_CELLS]
+    ensures { λ r. ⌜ length r ≡ mostDue * mostReports ⌝ }
+{
+    [0; MOST_CELLS]
+}
+
+fn blank_list() -> [u32; intake::MOST_DUE]
+    ensures { λ r. ⌜ length r ≡ mostDue ⌝ }
+{
+    [0; intake::MOST_DUE]
+}
+
+fn blank_due() -> [usize; intake::DUE_ROOM]
+    ensures { λ r. ⌜ mostDue < length r ⌝ }
+{
+    [0; intake::DUE_ROOM]
+}
+
+// A call that is refused by nothing.
+fn serve(
+    table: &mut [[u8; records::SLOT_BYTES]],
+    sector: u8,
+    site: Site,
+    batch: &[[u8; records::REPORT_BYTES]],
+    fates: &mut [u8],
+    slots: &mut [u16],
+    shown: &mut [u8],
+    discounts: &mut [u32],
+    prices: &mut [u32],
+) -> Counts
+    requires { ⌜ Ready (input (now table) sector site (now batch)) ⌝ }
+    requires { ⌜ Room (length (now table)) (length (now batch)) (length (now fates)) (length (now slots)) (length (now shown)) (length (now discounts)) (length (now prices)) ⌝ }
+    ensures { λ r. ⌜ ServedWith (input (now (table .entry)) sector site (now (batch .entry)))
+        (lent (now (table .entry)) sector (now (fates .entry)) (now (slots .entry)) (now (shown .entry)) (now (discounts .entry)) (now (prices .entry)))
+        (lent (now (table .exit)) (nextSector sector) (now (fates .exit)) (now (slots .exit)) (now (shown .exit)) (now (discounts .exit)) (now (prices .exit))) r ⌝ }
+{
+    let mut due = blank_due();
+    let tracks = intake::list_due(table, &mut due);
+    let cells = tracks * batch.len();
+    let mut sheet = blank_sheet();
+    let mut pairing = blank_list();
+    let mut track_prices = blank_list();
+    serve_due(
+        table,
+        sector,
+        site,
+        batch,
+        &due[..tracks],
+        &mut sheet[..cells],
+        &mut pairing[..tracks],
+        &mut track_prices[..tracks],
+        fates,
+        slots,
+        shown,
+        discounts,
+        prices,
+    )
 }
