@@ -1,21 +1,20 @@
 -- Score and pair: the sheet is the sector's, the pairing call does not refuse it, and the check accepts what it gives. Assumes nothing.
-use Prim.Native.Nat.{ℕ, _*_, _≤_, _<_}
-use mathlib.Core.Path.{_≡_, refl, sym, ap, _∙_}
+use Prim.Native.Nat.{ℕ, _*_}
+use mathlib.Core.Path.{_≡_, sym, ap, _∙_}
 use mathlib.Core.List.{List, _++_}
 use native.Mathlib.Nat.{le-of-eq, le-refl}
-use native.Mathlib.Omega.{arith}
-use lib.ListN.{length, take, drop}
-use Rattle.matching.specs.Pairing.{at, sheetOf}
-use Rattle.matching.specs.Answer.{Sizes, sheetRefusal, checkAnswer}
+use lib.ListN.{length, drop}
+use Rattle.matching.specs.Pairing.{at}
+use Rattle.matching.specs.Answer.{Sizes, sheetRefusal}
 use Rattle.matching.proofs.Theorems.{ready-is-not-refused, zero-certificate}
 use Rattle.engine.specs.declared.Paired.{Paired}
 use Rattle.engine.specs.Call.{Served, PairsSheet}
-use Rattle.intake.specs.Refusals.{Input, dueSlots, Ready}
+use Rattle.intake.specs.Refusals.{Input, Ready}
 use Rattle.scoresheet.specs.Cells.{cellsOf, tracksOf, reportsOf, sectorSheet}
 use Rattle.scoresheet.specs.Ready.{RowsReady}
 use Rattle.scoresheet.proofs.Rows.{nothing-beyond}
 use Rattle.scoresheet.proofs.SheetLaws.{cells-length, sheet-in-range}
-use Rattle.sector.specs.Steps.{Pairable, PairedUp, PairedOff}
+use Rattle.sector.specs.Steps.{Pairable, PairedOff}
 
 module _ (i : Input) (due sheet p u v : List ℕ) (r : Ready i) (q : Pairable i due sheet p u v) where
   due-count : length due ≡ tracksOf i

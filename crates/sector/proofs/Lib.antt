@@ -4,3 +4,4 @@ pub mod Stepping
 pub mod Choosing
 pub mod Serving
 pub mod Lists
+pub mod Answering

@@ -1,14 +1,12 @@
 -- A served call, put together from its steps. Assumes nothing.
-use Prim.Native.Nat.{ℕ, _≤_, _<_}
-use mathlib.Core.Path.{_≡_, refl, sym, ap, _∙_}
+use Prim.Native.Nat.{ℕ}
+use mathlib.Core.Path.{_≡_, refl, sym, _∙_}
 use mathlib.Core.List.{List, _++_}
 use native.Mathlib.Nat.{le-of-eq}
-use native.Mathlib.Omega.{arith}
 use lib.ListN.{length, take, drop, take-append-drop}
 use lib.Seq.{length-take-le, getD-take}
 use Rattle.numbers.specs.Sectors.{nextSector}
-use Rattle.matching.specs.Pairing.{at}
-use Rattle.matching.specs.Answer.{Sizes, Fits, checkAnswer}
+use Rattle.matching.specs.Answer.{Fits}
 use Rattle.matching.proofs.Theorems.{beyond-is-not-read, zero-certificate}
 use Rattle.intake.specs.Refusals.{Input}
 use Rattle.scoresheet.specs.Cells.{cellsOf, tracksOf, reportsOf}

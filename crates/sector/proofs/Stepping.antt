@@ -1,19 +1,17 @@
 -- From what a served call has found to what each of its steps asks, and what the steps leave. Assumes nothing.
-use Prim.Native.Nat.{ℕ, _*_, _≤_, _<_}
-use mathlib.Core.Path.{_≡_, refl, sym, ap, _∙_}
+use Prim.Native.Nat.{ℕ, _≤_}
+use mathlib.Core.Path.{_≡_, sym, ap, _∙_}
 use mathlib.Core.List.{List, _++_}
 use native.Mathlib.Nat.{le-of-eq}
-use native.Mathlib.Omega.{arith}
 use lib.ListN.{length, take, drop}
-use Rattle.matching.specs.Pairing.{at, Sheet, sheetOf, scoreSum, ValidPairing, InRange}
+use Rattle.matching.specs.Pairing.{at, sheetOf, scoreSum}
 use Rattle.intake.specs.Refusals.{Input, dueSlots, Ready}
-use Rattle.scoresheet.specs.Cells.{cellsOf, tracksOf, reportsOf, sectorSheet}
+use Rattle.scoresheet.specs.Cells.{tracksOf, reportsOf, sectorSheet}
 use Rattle.scoresheet.proofs.Due.{due-lies}
 use Rattle.scoresheet.proofs.SheetLaws.{cells-length, sheet-in-range}
 use Rattle.walk.specs.Table.{settledTable, slotPrices, coastedCount, droppedCount}
 use Rattle.walk.specs.Counting.{Settles}
-use Rattle.walk.proofs.Settled.{settled-length}
-use Rattle.fates.specs.Fates.{handed, Tellable, Roomy, startedTable, fatesOf, slotsOf, shownOf}
+use Rattle.fates.specs.Fates.{handed, Tellable, startedTable, fatesOf, slotsOf, shownOf}
 use Rattle.fates.proofs.Answers.{fates-taken}
 use Rattle.sector.specs.declared.Counts.{Counts}
 use Rattle.sector.specs.Sum.{Summable}

@@ -1,12 +1,10 @@
 -- The sum of pair scores: each pair's cell lies in the sheet and holds a score, and the sum stays small. Assumes nothing.
 use Prim.Native.Nat.{ℕ, _+_, _*_, _≤_, _<_}
-use mathlib.Core.Path.{_≡_, refl}
-use mathlib.Core.Bool.{Bool, true, false, cond}
+use mathlib.Core.Path.{_≡_}
 use mathlib.Core.List.{List}
 use native.Mathlib.Nat.{mul-le-mul}
 use native.Mathlib.Omega.{arith}
 use borrow.Author.Tests.{ne-eqb, eq-eqb}
-use lib.Dec.{eqb}
 use lib.ListN.{length}
 use Rattle.laws.proofs.Sums.{row-in}
 use Rattle.matching.specs.Pairing.{none, scoreEnd, mostTracks, mostReports, at, sheetOf, scoreOr}

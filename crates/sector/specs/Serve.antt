@@ -1,12 +1,12 @@
 -- What a sector call answers, and what it leaves in all that was lent (01, 'After pairing' and 'Numbers a sector call gives back').
 -- Assumes nothing.
-use Prim.Native.Nat.{ℕ, _≤_}
+use Prim.Native.Nat.{ℕ}
 use mathlib.Core.Path.{_≡_}
-use mathlib.Core.Bool.{Bool}
+use mathlib.Core.Bool.{Bool, not}
 use mathlib.Core.List.{List, [], _∷_, _++_}
 use lib.Dec.{leb}
 use lib.ListN.{length, drop}
-use Rattle.laws.specs.Tests.{holds}
+use Rattle.laws.specs.Lists.{firstIndex}
 use Rattle.numbers.specs.Sectors.{nextSector}
 use Rattle.records.specs.declared.Site.{Site}
 use Rattle.matching.specs.Pairing.{at, scoreSum}
@@ -38,15 +38,18 @@ abbrev pub handedIn : Lent → Site → List (List ℕ) → Input
 handedIn l site batch = input (l .table) (l .sector) site batch
 
 -- room for a fate, slot, shown mark and discount per report and a price per slot
+unfoldable pub rooms : (reports slots : ℕ) (fates owners shown discounts prices : ℕ) → List Bool
+rooms reports slots fates owners shown discounts prices =
+    leb reports fates ∷ leb reports owners ∷ leb reports shown ∷ leb reports discounts ∷ leb slots prices ∷ []
+
+-- none of them fails
+unfoldable pub allPass : List Bool → Bool
+allPass tests = leb (length tests) (firstIndex not tests)
+
 unfoldable pub roomFor : Input → Lent → Bool
 roomFor i l =
-    holds
-    (leb (reportsOf i) (length (l .fates))
-    ∷ leb (reportsOf i) (length (l .slots))
-    ∷ leb (reportsOf i) (length (l .shown))
-    ∷ leb (reportsOf i) (length (l .discounts))
-    ∷ leb (length (i .table)) (length (l .prices))
-    ∷ [])
+    allPass
+    (rooms (reportsOf i) (length (i .table)) (length (l .fates)) (length (l .slots)) (length (l .shown)) (length (l .discounts)) (length (l .prices)))
 
 -- the number that the call gives back, or 0
 unfoldable pub sectorRefusal : Input → Lent → ℕ

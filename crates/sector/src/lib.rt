@@ -7,10 +7,9 @@ ghost use Rattle.numbers.specs.Sectors.{nextSector};
 ghost use Rattle.intake.specs.Refusals.{input, mostDue, mostReports, Ready};
 ghost use Rattle.sector.specs.Steps.{Pairable, PairedUp, PairedOff, Room};
 ghost use Rattle.sector.specs.Settled.{SettledAs};
-ghost use Rattle.sector.specs.Serve.{lent, handedIn, tally, ServedWith, ServesSector};
+ghost use Rattle.sector.specs.Serve.{lent, rooms, allPass, tally, ServedWith, ServesSector};
 ghost use Rattle.matching.specs.Pairing.{at, scoreEnd, sheetOf, scoreOr, scoreSum};
 ghost use Rattle.sector.specs.Sum.{Summable};
-
 use records::Site;
 use walk::Missed;
 
@@ -126,7 +125,14 @@ fn pair_up(
     ensures { λ _. ⌜ PairedOff (input (now (table .entry)) sector site (now (batch .entry))) (now (due .entry)) (now (sheet .exit)) (now (pairing .exit)) (now («track_prices» .exit)) (now (discounts .entry)) (now (discounts .exit)) ⌝ }
 {
     scoresheet::fill_rows(table, sector, site, batch, due, sheet);
-    engine::pair_sheet(due.len(), batch.len(), sheet, pairing, track_prices, discounts);
+    engine::pair_sheet(
+        due.len(),
+        batch.len(),
+        sheet,
+        pairing,
+        track_prices,
+        discounts,
+    );
 }
 
 // A call that is refused by nothing, with its due list and its working lists: score, pair, settle.
@@ -237,4 +243,73 @@ fn serve(
         discounts,
         prices,
     )
+}
+
+// Whether the answer's lists have room for a fate, slot, shown mark and discount per report and a price per slot.
+fn has_room(
+    reports: usize,
+    slots: usize,
+    fates: usize,
+    owners: usize,
+    shown: usize,
+    discounts: usize,
+    prices: usize,
+) -> bool
+    ensures { λ r. ⌜ r ≡ allPass (rooms reports slots fates owners shown discounts prices) ⌝ }
+{
+    let rooms = [
+        reports <= fates,
+        reports <= owners,
+        reports <= shown,
+        reports <= discounts,
+        slots <= prices,
+    ];
+    rooms.len() <= records::first_broken(&rooms)
+}
+
+// The public call: refused by 1 to 9, and then nothing that was lent changes; else the sector is served.
+pub fn serve_sector(
+    table: &mut [[u8; records::SLOT_BYTES]],
+    sector: &mut u8,
+    site: Site,
+    batch: &[[u8; records::REPORT_BYTES]],
+    fates: &mut [u8],
+    slots: &mut [u16],
+    shown: &mut [u8],
+    discounts: &mut [u32],
+    prices: &mut [u32],
+) -> Served
+    ensures { λ r. ⌜ ServesSector (input (now (table .entry)) (now (sector .entry)) site (now (batch .entry)))
+        (lent (now (table .entry)) (now (sector .entry)) (now (fates .entry)) (now (slots .entry)) (now (shown .entry)) (now (discounts .entry)) (now (prices .entry)))
+        (lent (now (table .exit)) (now (sector .exit)) (now (fates .exit)) (now (slots .exit)) (now (shown .exit)) (now (discounts .exit)) (now (prices .exit))) r ⌝ }
+{
+    let served = *sector;
+    let number = intake::fault(table, served, site, batch);
+    if number != 0 {
+        return Served::Refused(number);
+    }
+    if !has_room(
+        batch.len(),
+        table.len(),
+        fates.len(),
+        slots.len(),
+        shown.len(),
+        discounts.len(),
+        prices.len(),
+    ) {
+        return Served::Refused(scoresheet::NO_ROOM);
+    }
+    let counts = serve(
+        table,
+        served,
+        site,
+        batch,
+        fates,
+        slots,
+        shown,
+        discounts,
+        prices,
+    );
+    *sector = numbers::next_sector(served);
+    Served::Done(counts)
 }

@@ -8,9 +8,6 @@ use Rattle.laws.proofs.Sums.{sum-none, sum-more, sum-done}
 use Rattle.matching.specs.Pairing.{at, scoreEnd, sheetOf, scoreOr, scoreSum}
 use Rattle.sector.proofs.score_sum.Statement.{statement}
 use Rattle.sector.proofs.score_sum.Tie as tie
-use Rattle.sector.proofs.score_sum.Reads as reads
-use Rattle.sector.proofs.score_sum.Lts as lts
-use Rattle.sector.proofs.pair_score.Reads as pair-score-reads
 
 abbrev Inv-loop : tie.InvT-loop
 Inv-loop sheet reports pairing sum₀ track₀ sum track = (track ≤ length pairing) × (sum ≤ track * scoreEnd) × (sum ≡ Sum track (scoreOr 0 (sheetOf (length pairing) reports sheet) (at pairing)))
@@ -18,33 +15,26 @@ Inv-loop sheet reports pairing sum₀ track₀ sum track = (track ≤ length pai
 abbrev μ-loop : tie.MeasureT-loop
 μ-loop sheet reports pairing sum₀ track₀ sum track = length pairing - track
 
--- src/lib.rt:34:5
 loop-holds : tie.Need-loop-holds Inv-loop μ-loop
 loop-holds c = (search needs, search needs, sum-none _)
 
--- src/lib.rt:35:16
 pair-score-requires : tie.Need-pair-score-requires Inv-loop μ-loop
 pair-score-requires c κs = (c .before .before .before .before .pre, c .loop-test .taken)
 
--- src/lib.rt:35:9
 add-sum : tie.Need-add-sum Inv-loop μ-loop
 add-sum c = omega (arith, c .pair-score .ensures .1, c .before .before .before .before .before .pre .range .tracks-few, c .before .before .loop .inv .1)
 
--- src/lib.rt:36:9
 add-track : tie.Need-add-track Inv-loop μ-loop
 add-track c = search needs
 
--- src/lib.rt:34:5
 loop-less : tie.Need-loop-less Inv-loop μ-loop
 loop-less c = search needs
 
--- src/lib.rt:34:5
 loop-again : tie.Need-loop-again Inv-loop μ-loop
 loop-again c =
     let i = c .before .before .loop .inv in
     (omega arith, omega (arith, c .pair-score .ensures .1, i .1), sum-more _ _ _ _ (i .2) (c .pair-score .ensures .0))
 
--- src/lib.rt:28:1
 returns : tie.Need-returns Inv-loop μ-loop
 unfolding scoreSum
 returns c = sum-done _ _ _ _ (c .before .loop .inv .0) (c .loop-test .left) (c .before .loop .inv .2)

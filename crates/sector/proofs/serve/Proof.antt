@@ -1,107 +1,77 @@
 use borrow.Author.Needs.{needs}
-use mathlib.Core.Path.{sym, _∙_}
+use mathlib.Core.Path.{sym}
 use native.Mathlib.Omega.{arith}
 use lib.Seq.{length-take-le}
 use Rattle.sector.proofs.Lists.{due-listed, pairable}
 use Rattle.sector.proofs.serve.Statement.{statement}
 use Rattle.sector.proofs.serve.Tie as tie
-use Rattle.sector.proofs.serve.Reads as reads
-use Rattle.sector.proofs.serve.Lts as lts
-use Rattle.intake.proofs.list_due.Reads as list-due-reads
-use Rattle.sector.proofs.blank_due.Reads as blank-due-reads
-use Rattle.sector.proofs.blank_list.Reads as blank-list-reads
-use Rattle.sector.proofs.blank_sheet.Reads as blank-sheet-reads
-use Rattle.sector.proofs.serve_due.Reads as serve-due-reads
 
--- src/lib.rt:219:19
 blank-due-requires : tie.Need-blank-due-requires
 blank-due-requires c κs = search needs
 
--- src/lib.rt:220:42
 slice-aggregate-list-due : tie.Need-slice-aggregate-list-due
 slice-aggregate-list-due c = search needs
 
--- src/lib.rt:220:9
 list-due-requires : tie.Need-list-due-requires
 list-due-requires c κs = search needs
 
--- src/lib.rt:221:17
 mul-cells : tie.Need-mul-cells
 mul-cells c = omega (arith, due-listed (c .before .before .before .before .before .before .before .before .before .before .pre .0) (c .before .list-due .ensures .0) (c .before .list-due .ensures .1) .cells)
 
--- src/lib.rt:222:21
 blank-sheet-requires : tie.Need-blank-sheet-requires
 blank-sheet-requires c κs = search needs
 
--- src/lib.rt:223:23
 blank-list-requires : tie.Need-blank-list-requires
 blank-list-requires c κs = search needs
 
--- src/lib.rt:224:28
 blank-list-requires-2 : tie.Need-blank-list-requires-2
 blank-list-requires-2 c κs = search needs
 
--- src/lib.rt:230:9
 array-share-prefix-due : tie.Need-array-share-prefix-due
 array-share-prefix-due c = search needs
 
--- src/lib.rt:230:9
 slice-aggregate-serve-due : tie.Need-slice-aggregate-serve-due
 slice-aggregate-serve-due c = sym (length-take-le _ _ (due-listed (c .before .before .before .before .before .before .before .before .before .before .before .before .before .before .before .pre .0) (c .before .before .before .before .before .before .list-due .ensures .0) (c .before .before .before .before .before .before .list-due .ensures .1) .room))
 
--- src/lib.rt:231:9
 array-borrow-prefix-sheet : tie.Need-array-borrow-prefix-sheet
 array-borrow-prefix-sheet c = omega (arith, due-listed (c .before .before .before .before .before .before .before .before .before .before .before .before .before .before .before .pre .0) (c .before .before .before .before .before .before .list-due .ensures .0) (c .before .before .before .before .before .before .list-due .ensures .1) .cells, c .before .before .before .before .blank-sheet .ensures)
 
--- src/lib.rt:231:9
 slice-aggregate-serve-due-2 : tie.Need-slice-aggregate-serve-due-2
 slice-aggregate-serve-due-2 c = sym (length-take-le _ _ (omega (arith, due-listed (c .before .before .before .before .before .before .before .before .before .before .before .before .before .before .before .before .pre .0) (c .before .before .before .before .before .before .before .list-due .ensures .0) (c .before .before .before .before .before .before .before .list-due .ensures .1) .cells, c .before .before .before .before .before .blank-sheet .ensures)))
 
--- src/lib.rt:232:9
 array-borrow-prefix-pairing : tie.Need-array-borrow-prefix-pairing
 array-borrow-prefix-pairing c = search needs
 
--- src/lib.rt:232:9
 slice-aggregate-serve-due-3 : tie.Need-slice-aggregate-serve-due-3
 slice-aggregate-serve-due-3 c = sym (length-take-le _ _ (omega (arith, due-listed (c .before .before .before .before .before .before .before .before .before .before .before .before .before .before .before .before .before .pre .0) (c .before .before .before .before .before .before .before .before .list-due .ensures .0) (c .before .before .before .before .before .before .before .before .list-due .ensures .1) .few, c .before .before .before .before .before .blank-list .ensures)))
 
--- src/lib.rt:233:9
 array-borrow-prefix-track-prices : tie.Need-array-borrow-prefix-track-prices
 array-borrow-prefix-track-prices c = search needs
 
--- src/lib.rt:233:9
 slice-aggregate-serve-due-4 : tie.Need-slice-aggregate-serve-due-4
 slice-aggregate-serve-due-4 c = sym (length-take-le _ _ (omega (arith, due-listed (c .before .before .before .before .before .before .before .before .before .before .before .before .before .before .before .before .before .before .pre .0) (c .before .before .before .before .before .before .before .before .before .list-due .ensures .0) (c .before .before .before .before .before .before .before .before .before .list-due .ensures .1) .few, c .before .before .before .before .before .blank-list2 .ensures)))
 
--- src/lib.rt:225:5
 serve-due-requires : tie.Need-serve-due-requires
 serve-due-requires c κs = (c .before .before .before .before .before .before .before .before .before .before .before .before .before .before .before .before .before .before .before .before .before .before .before .pre .0, (pairable _ _ _ _ (due-listed (c .before .before .before .before .before .before .before .before .before .before .before .before .before .before .before .before .before .before .before .before .before .before .before .pre .0) (c .before .before .before .before .before .before .before .before .before .before .before .before .before .before .list-due .ensures .0) (c .before .before .before .before .before .before .before .before .before .before .before .before .before .before .list-due .ensures .1)) (c .before .before .before .before .before .before .before .before .before .before .before .before .blank-sheet .ensures) (c .before .before .before .before .before .before .before .before .before .before .before .blank-list .ensures) (c .before .before .before .before .before .before .before .before .before .before .blank-list2 .ensures) (c .before .before .before .before .before .before .before .before .before .before .before .before .before .before .before .before .before .before .before .before .before .before .before .pre .1 .for-discounts), c .before .before .before .before .before .before .before .before .before .before .before .before .before .before .before .before .before .before .before .before .before .before .before .pre .1))
 
--- src/lib.rt:202:1
 same-length : tie.Need-same-length
 same-length c = search needs
 
--- src/lib.rt:202:1
 same-length-2 : tie.Need-same-length-2
 same-length-2 c = search needs
 
--- src/lib.rt:202:1
 same-length-3 : tie.Need-same-length-3
 same-length-3 c = search needs
 
--- src/lib.rt:202:1
 same-length-4 : tie.Need-same-length-4
 same-length-4 c = search needs
 
--- src/lib.rt:202:1
 same-length-5 : tie.Need-same-length-5
 same-length-5 c = search needs
 
--- src/lib.rt:202:1
 same-length-6 : tie.Need-same-length-6
 same-length-6 c = search needs
 
--- src/lib.rt:202:1
 returns : tie.Need-returns
 returns c = c .before .before .before .before .before .before .before .before .before .before .before .before .before .before .serve-due .ensures
 

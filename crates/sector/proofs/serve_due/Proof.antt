@@ -3,56 +3,40 @@ use Rattle.sector.proofs.Serving.{served-with}
 use native.Mathlib.Nat.{le-refl}
 use Rattle.sector.proofs.serve_due.Statement.{statement}
 use Rattle.sector.proofs.serve_due.Tie as tie
-use Rattle.sector.proofs.serve_due.Reads as reads
-use Rattle.sector.proofs.serve_due.Lts as lts
-use Rattle.sector.proofs.pair_up.Reads as pair-up-reads
-use Rattle.sector.proofs.settle.Reads as settle-reads
 
--- src/lib.rt:155:5
 pair-up-requires : tie.Need-pair-up-requires
 pair-up-requires c κs = search needs
 
--- src/lib.rt:166:5
 settle-requires : tie.Need-settle-requires
 settle-requires c κs = (c .before .before .before .before .before .before .before .before .before .before .before .before .before .before .before .before .before .before .before .before .before .before .before .before .before .before .before .before .before .before .before .pre .0, (c .before .before .before .before .before .before .before .before .before .before .before .before .before .before .before .before .pair-up .ensures .up, record { for-fates = c .before .before .before .before .before .before .before .before .before .before .before .before .before .before .before .before .before .before .before .before .before .before .before .before .before .before .before .before .before .before .before .pre .1 .1 .for-fates; for-slots = c .before .before .before .before .before .before .before .before .before .before .before .before .before .before .before .before .before .before .before .before .before .before .before .before .before .before .before .before .before .before .before .pre .1 .1 .for-slots; for-shown = c .before .before .before .before .before .before .before .before .before .before .before .before .before .before .before .before .before .before .before .before .before .before .before .before .before .before .before .before .before .before .before .pre .1 .1 .for-shown; for-discounts = le-refl _; for-prices = c .before .before .before .before .before .before .before .before .before .before .before .before .before .before .before .before .before .before .before .before .before .before .before .before .before .before .before .before .before .before .before .pre .1 .1 .for-prices }))
 
--- src/lib.rt:133:1
 same-length : tie.Need-same-length
 same-length c = search needs
 
--- src/lib.rt:133:1
 same-length-2 : tie.Need-same-length-2
 same-length-2 c = search needs
 
--- src/lib.rt:133:1
 same-length-3 : tie.Need-same-length-3
 same-length-3 c = search needs
 
--- src/lib.rt:133:1
 same-length-4 : tie.Need-same-length-4
 same-length-4 c = search needs
 
--- src/lib.rt:133:1
 same-length-5 : tie.Need-same-length-5
 same-length-5 c = search needs
 
--- src/lib.rt:133:1
 same-length-6 : tie.Need-same-length-6
 same-length-6 c = search needs
 
--- src/lib.rt:133:1
 same-length-7 : tie.Need-same-length-7
 same-length-7 c = search needs
 
--- src/lib.rt:133:1
 same-length-8 : tie.Need-same-length-8
 same-length-8 c = search needs
 
--- src/lib.rt:133:1
 same-length-9 : tie.Need-same-length-9
 same-length-9 c = search needs
 
--- src/lib.rt:133:1
 returns : tie.Need-returns
 returns c = served-with _ _ _ _ _ _ _ (c .before .before .before .before .before .before .before .before .before .before .before .before .before .before .before .before .before .before .before .before .before .before .before .before .before .before .pair-up .ensures) (c .before .before .before .before .before .before .before .before .before .settle .ensures)
 

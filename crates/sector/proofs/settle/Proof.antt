@@ -2,58 +2,39 @@ use borrow.Author.Needs.{needs}
 use native.Mathlib.Omega.{arith}
 use Rattle.sector.proofs.Stepping.{counted}
 use Rattle.sector.proofs.Stepping.{summable, settles, tellable, settled}
-use Rattle.walk.proofs.Settled.{settled-length}
 use Rattle.sector.proofs.settle.Statement.{statement}
 use Rattle.sector.proofs.settle.Tie as tie
-use Rattle.sector.proofs.settle.Reads as reads
-use Rattle.sector.proofs.settle.Lts as lts
-use Rattle.fates.proofs.tell_reports.Reads as tell-reports-reads
-use Rattle.sector.proofs.count_all.Reads as count-all-reads
-use Rattle.sector.proofs.score_sum.Reads as score-sum-reads
-use Rattle.walk.proofs.count_missed.Reads as count-missed-reads
-use Rattle.walk.proofs.settle_table.Reads as settle-table-reads
 
--- src/lib.rt:102:9
 score-sum-requires : tie.Need-score-sum-requires
 score-sum-requires c κs = summable _ _ _ _ _ (c .before .before .before .before .before .before .before .before .pre .0) (c .before .before .before .before .before .before .before .before .pre .1 .0)
 
--- src/lib.rt:103:9
 count-missed-requires : tie.Need-count-missed-requires
 count-missed-requires c κs = (c .before .before .before .before .before .before .before .before .before .before .pre .0, counted _ _ _ _ _ (c .before .before .before .before .before .before .before .before .before .before .pre .0) (c .before .before .before .before .before .before .before .before .before .before .pre .1 .0))
 
--- src/lib.rt:104:5
 settle-table-requires : tie.Need-settle-table-requires
 settle-table-requires c κs = (c .before .before .before .before .before .before .before .before .before .before .before .before .before .pre .0, settles _ _ _ _ _ (c .before .before .before .before .before .before .before .before .before .before .before .before .before .pre .0) (c .before .before .before .before .before .before .before .before .before .before .before .before .before .pre .1 .0) _ (c .before .before .before .before .before .before .before .before .before .before .before .before .before .pre .1 .1 .for-prices))
 
--- src/lib.rt:105:5
 tell-reports-requires : tie.Need-tell-reports-requires
 tell-reports-requires c κs = (tellable _ _ _ _ _ (c .before .before .before .before .before .before .before .before .before .before .before .before .before .before .before .before .before .before .before .before .before .pre .0) (c .before .before .before .before .before .before .before .before .before .before .before .before .before .before .before .before .before .before .before .before .before .pre .1 .0) _ (c .before .before .before .before .before .before .before .settle-table .kept .0), record { for-fates = c .before .before .before .before .before .before .before .before .before .before .before .before .before .before .before .before .before .before .before .before .before .pre .1 .1 .for-fates; for-slots = c .before .before .before .before .before .before .before .before .before .before .before .before .before .before .before .before .before .before .before .before .before .pre .1 .1 .for-slots; for-shown = c .before .before .before .before .before .before .before .before .before .before .before .before .before .before .before .before .before .before .before .before .before .pre .1 .1 .for-shown })
 
--- src/lib.rt:106:5
 count-all-requires : tie.Need-count-all-requires
 count-all-requires c κs = (omega (arith, c .before .before .before .before .before .before .before .before .tell-reports .kept .1, c .before .before .before .before .before .before .before .before .before .before .before .before .before .before .before .before .before .before .before .before .before .before .before .before .before .before .before .before .before .before .pre .1 .1 .for-fates), c .before .before .before .before .before .before .before .before .before .before .before .before .before .before .before .before .before .before .before .before .before .before .before .before .before .before .before .before .before .before .pre .0 .few-reports)
 
--- src/lib.rt:82:1
 same-length : tie.Need-same-length
 same-length c = search needs
 
--- src/lib.rt:82:1
 same-length-2 : tie.Need-same-length-2
 same-length-2 c = search needs
 
--- src/lib.rt:82:1
 same-length-3 : tie.Need-same-length-3
 same-length-3 c = search needs
 
--- src/lib.rt:82:1
 same-length-4 : tie.Need-same-length-4
 same-length-4 c = search needs
 
--- src/lib.rt:82:1
 same-length-5 : tie.Need-same-length-5
 same-length-5 c = search needs
 
--- src/lib.rt:82:1
 returns : tie.Need-returns
 returns c = settled _ _ _ _ _ (c .before .before .before .before .before .before .before .before .before .before .before .before .before .before .before .before .before .before .before .before .before .before .before .before .before .before .before .before .before .before .before .pre .0) (c .before .before .before .before .before .before .before .before .before .before .before .before .before .before .before .before .before .before .before .before .before .before .before .before .before .before .before .before .before .before .before .pre .1 .0) (c .before .before .before .before .before .before .before .before .before .before .before .before .before .before .before .before .before .before .before .before .before .before .score-sum .ensures) (c .before .before .before .before .before .before .before .before .before .before .before .before .before .before .before .before .before .before .before .before .count-missed .ensures .0) (c .before .before .before .before .before .before .before .before .before .before .before .before .before .before .before .before .before .before .before .before .count-missed .ensures .1) (c .before .before .before .before .before .before .before .before .before .before .before .before .before .before .before .before .before .settle-table .ensures .0) (c .before .before .before .before .before .before .before .before .before .before .before .before .before .before .before .before .before .settle-table .ensures .1) (c .before .before .before .before .before .before .before .before .before .tell-reports .ensures .0) (c .before .before .before .before .before .before .before .before .before .tell-reports .ensures .1) (c .before .before .before .before .before .before .before .before .before .tell-reports .ensures .2) (c .before .before .before .before .before .before .before .before .before .tell-reports .ensures .3) (c .count-all .ensures)
 
