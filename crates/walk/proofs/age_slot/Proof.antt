@@ -22,7 +22,7 @@ array-read-slot : tie.Need-array-read-slot
 array-read-slot c = search needs
 
 sub-slot : tie.Need-sub-slot
-sub-slot c = waits-on _ (c .before .pre) (c .if1 .left)
+sub-slot c = omega (arith, waits-on (c .before .args .t1) (c .before .pre) (c .if1 .left))
 
 array-write-slot : tie.Need-array-write-slot
 array-write-slot c = search needs
