@@ -47,6 +47,7 @@ fn separator(left: usize) -> u8
 pub fn put_line(out: &mut [u8], place: usize, numbers: &[u32]) -> usize
     requires { ⌜ place + length (now numbers) * (mostDigits + 1) ≤ length (now out) ⌝ }
     ensures { λ r. ⌜ Put (now (out .entry)) place (lineOf (now (numbers .entry))) (now (out .exit)) r ⌝ }
+    ensures { λ r. ⌜ r ≤ place + length (now (numbers .entry)) * (mostDigits + 1) ⌝ }
 {
     let mut at = place;
     let mut i: usize = 0;

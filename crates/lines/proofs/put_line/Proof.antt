@@ -1,3 +1,4 @@
+use Rattle.lines.proofs.Numerals.{line-short}
 use borrow.Author.Needs.{needs}
 use Prim.Native.Nat.{_-_}
 use lib.ListN.{length}
@@ -53,7 +54,9 @@ same-length : tie.Need-same-length Inv-loop μ-loop
 same-length c = c .before .loop .inv .so .same
 
 returns : tie.Need-returns Inv-loop μ-loop
-returns c = lining-end (c .before .loop .inv) (omega arith) (c .loop-test .left)
+returns c =
+    let put = lining-end (c .before .loop .inv) (omega arith) (c .loop-test .left) in
+    (put, omega (arith, put .past, line-short (c .before .before .before .before .args .numbers .now)))
 
 pub put-line-spec : {M : Type 1} → statement M
 put-line-spec =
