@@ -1,0 +1,3 @@
+-- The laws of lines of numbers.
+pub mod Numerals
+pub mod Writing

@@ -1,0 +1,2 @@
+-- The text of lines of numbers.
+pub mod Text
