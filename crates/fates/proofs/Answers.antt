@@ -14,7 +14,7 @@ use Rattle.laws.proofs.Fold.{length-outs}
 use Rattle.records.specs.Fields.{isWeak}
 use Rattle.records.specs.Bytes.{trackOf, reportOf}
 use Rattle.fates.specs.Fates.{paired, started, weak, full, noSlot, shownFrom, Handed, isFree, freeSlot, ownerOf, shownMark, slotOf, toldPaired, toldUnpaired, toldOf, afterReport, reportNumbers, fatesOf, slotsOf, shownOf, countOf}
-use Rattle.fates.proofs.Loops.{numbers, outs-at, count-from}
+use Rattle.laws.proofs.Rounds.{numbers, told-at, count-from}
 use Rattle.fates.proofs.Telling.{fateOut, slotOut, shownOut}
 use Rattle.fates.proofs.Starts.{tableAt, held-at}
 
@@ -61,7 +61,7 @@ told-fate h P j table = go (ltb (ownerOf P j) (length P)) (isWeak (reportOf (get
 
 pub fate-of-each : (h : Handed) (P : List ℕ) (table : List (List ℕ)) (j : ℕ) → j < length (h .batch) → Fate (getD (fatesOf h P table) j 0)
 unfolding fatesOf reportNumbers
-fate-of-each h P table j l = rw (outs-at (afterReport h P) (fateOut h P) (length (h .batch)) (λ j. j) table j 0 l) (told-fate h P j (tableAt h P j table))
+fate-of-each h P table j l = rw (told-at (afterReport h P) (fateOut h P) (length (h .batch)) (λ j. j) table j 0 l) (told-fate h P j (tableAt h P j table))
 
 -- the first of a list counts 1 where it has the fate
 count-cons : (fate f : ℕ) (fs : List ℕ) → countOf fate (f ∷ fs) ≡ cond (eqb fate f) 1 0 + countOf fate fs
@@ -119,7 +119,7 @@ module _ (h : Handed) (P : List ℕ) (table : List (List ℕ)) (j : ℕ) (here :
   pub shown-at : TrackThere → getD (shownOf h P table) j 0 ≡ cond (ltb (ownerOf P j) (length P)) (shownMark (getD table (slotOf h P j) [])) 0
   unfolding shownOf reportNumbers
   shown-at there =
-      outs-at (afterReport h P) (shownOut h P) (length (h .batch)) (λ j. j) table j 0 here
+      told-at (afterReport h P) (shownOut h P) (length (h .batch)) (λ j. j) table j 0 here
       ∙ told-shown h P j (tableAt h P j table)
       ∙ go (ltb (ownerOf P j) (length P)) refl
     where

@@ -1,5 +1,4 @@
 -- What becomes of each report: laws.
-pub mod Loops
 pub mod Telling
 pub mod Starts
 pub mod Answers

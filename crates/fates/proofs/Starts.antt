@@ -24,7 +24,7 @@ use Rattle.records.proofs.RoundTrips.{unpack-pack}
 use Rattle.settling.specs.Settle.{startedOf}
 use Rattle.settling.proofs.HandedOn.{started-served}
 use Rattle.fates.specs.Fates.{started, Handed, isFree, freeSlot, ownerOf, toldUnpaired, afterUnpaired, afterReport, reportNumbers, startedTable}
-use Rattle.fates.proofs.Loops.{numbers, all-keep}
+use Rattle.laws.proofs.Rounds.{numbers, all-keep}
 
 -- a report leaves the table as it is, or starts its track in the lowest free slot: what both keep, it keeps
 module _ (Q : List (List ℕ) → Type 0) (h : Handed) (P : List ℕ) (j : ℕ) (table : List (List ℕ)) where

@@ -12,7 +12,7 @@ use Rattle.records.specs.Fields.{isWeak}
 use Rattle.records.specs.Bytes.{bytesOf, reportOf}
 use Rattle.settling.specs.Settle.{startedOf}
 use Rattle.fates.specs.Fates.{started, weak, full, noSlot, freeSlot, isFree, ownerOf, toldUnpaired, afterUnpaired, toldOf, afterReport, Handed, Tellable}
-use Rattle.fates.proofs.Loops.{first-later}
+use Rattle.laws.proofs.Rounds.{first-later}
 
 -- the fate of a report without a pair: the first that applies
 abbrev pub unpairedFate : (weak? full? : Bool) → ℕ

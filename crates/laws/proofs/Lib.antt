@@ -9,3 +9,5 @@ pub mod Listed
 pub mod Sizes
 pub mod Stores
 pub mod Parts
+pub mod Ranks
+pub mod Rounds

@@ -1,11 +1,13 @@
 -- A pairing is what it says of the tracks that are there; so lists of report numbers do for functions. Assumes nothing.
-use Prim.Native.Nat.{ℕ, zero, suc, _≤_}
-use mathlib.Core.Path.{_≡_, refl, ap, sym, _∙_}
+use Prim.Native.Nat.{ℕ, _≤_}
+use mathlib.Core.Path.{_≡_, sym, _∙_, ap}
 use mathlib.Core.Bool.{cond}
-use mathlib.Core.List.{List, [], _∷_}
-use native.Mathlib.Nat.{le-of-eq, le-of-suc-le-suc, not-suc-le-zero}
+use mathlib.Core.List.{List}
+use native.Mathlib.Nat.{le-of-eq}
 use lib.Dec.{eqb}
 use lib.ListN.{length}
+use Rattle.laws.specs.Lists.{listed}
+use Rattle.laws.proofs.Listed.{length-listed, listed-at}
 use Rattle.laws.proofs.Sums.{sum-same}
 use Rattle.matching.specs.Pairing.{none, Sheet, ValidPairing, pairs, scoreSum, Best, at, Alike, BestList}
 
@@ -35,20 +37,8 @@ module _ (S : Sheet) (P Q : ℕ → ℕ) (a : Alike (S .tracks) P Q) where
       }
 
 -- P 0, P 1, .. as a list
-unfoldable listOf : ℕ → (ℕ → ℕ) → List ℕ
-listOf zero P = []
-listOf (suc n) P = P 0 ∷ listOf n (λ i. P (suc i))
-
-list-long : (n : ℕ) (P : ℕ → ℕ) → length (listOf n P) ≡ n
-unfolding listOf
-list-long zero P = refl
-list-long (suc n) P = ap suc (list-long n (λ i. P (suc i)))
-
-list-at : (n : ℕ) (P : ℕ → ℕ) → Alike n P (at (listOf n P))
-unfolding listOf
-list-at zero P i l = absurd (not-suc-le-zero l)
-list-at (suc n) P zero l = refl
-list-at (suc n) P (suc i) l = list-at n (λ k. P (suc k)) i (le-of-suc-le-suc l)
+list-at : (n : ℕ) (P : ℕ → ℕ) → Alike n P (at (listed n P))
+list-at n P i l = sym (listed-at n P i 0 l)
 
 module _ (S : Sheet) (p : List ℕ) where
   pub list-best : BestList S p → Best S (at p)
@@ -61,10 +51,10 @@ module _ (S : Sheet) (p : List ℕ) where
       }
     where
       list : (ℕ → ℕ) → List ℕ
-      list Q = listOf (S .tracks) Q
+      list Q = listed (S .tracks) Q
 
       long : (Q : ℕ → ℕ) → S .tracks ≤ length (list Q)
-      long Q = le-of-eq (sym (list-long (S .tracks) Q))
+      long Q = le-of-eq (sym (length-listed (S .tracks) Q))
 
       as-list : (Q : ℕ → ℕ) → ValidPairing S Q → ValidPairing S (at (list Q))
       as-list Q = valid-same S Q (at (list Q)) (list-at _ Q)

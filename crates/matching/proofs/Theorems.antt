@@ -1,13 +1,17 @@
 -- What the referee's word is worth. Each theorem with its plain meaning; the definitions are those of specs/. Assumes nothing.
-use Prim.Native.Nat.{ℕ, _-_, _*_, _≤_, _<_}
-use mathlib.Core.Path.{_≡_, sym, _∙_}
-use mathlib.Core.List.{List}
+use Prim.Native.Nat.{ℕ, _+_, _-_, _*_, _≤_, _<_}
+use mathlib.Core.Path.{_≡_, refl, sym, _∙_}
+use mathlib.Core.Bool.{Bool, true, false, not, cond, _&&_}
+use mathlib.Core.List.{List, [], _∷_}
 use native.Mathlib.Omega.{arith}
+use lib.Dec.{ltb}
 use lib.ListN.{length}
+use Rattle.laws.specs.Lists.{firstIndex}
+use Rattle.laws.specs.Tests.{refuse}
 use borrow.Author.Tests.{eq-eqb, eqb-true}
 use Rattle.laws.proofs.Tests.{refuse-none}
 use Rattle.matching.specs.Pairing.{none, scoreEnd, leftOut, mostTracks, Sheet, Admissible, InRange, Paired, ValidPairing, pairs, misses, scoreSum, total, Best, Certificate, at, Alike, sheetOf, BestList}
-use Rattle.matching.specs.Answer.{Sizes, Fits, sheetRefusal, totalsOk, checkAnswer}
+use Rattle.matching.specs.Answer.{Sizes, Fits, sizesOk, cellsOk, pairingOk, numbersOk, scoresOk, totalsOk, sheetRefusal, checkAnswer}
 use Rattle.matching.proofs.Duality as duality
 use Rattle.matching.proofs.Facts as facts
 use Rattle.matching.proofs.Same as same
@@ -189,3 +193,32 @@ beyond-is-not-read = beyond.answer-same
 pub certificate-alike : (n m : ℕ) (s s′ p p′ u u′ v v′ : List ℕ) → Fits n m s p u v → Fits n m s′ p′ u′ v′ → Alike (n * m) (at s) (at s′) → Alike n (at p) (at p′) → Alike n (at u) (at u′) → Alike m (at v) (at v′) → Certificate (sheetOf n m s) (at p) (at u) (at v) → Certificate (sheetOf n m s′) (at p′) (at u′) (at v′)
 certificate-alike n m s s′ p p′ u u′ v v′ z z′ cs ps us vs c =
     zero-certificate n m s′ p′ u′ v′ (sym (beyond-is-not-read n m s s′ p p′ u u′ v v′ z z′ cs ps us vs) ∙ certificate-zero n m s p u v z c) .1
+
+-- ---- the order of the answers
+
+-- What is tested, in 01's order: the numbers 21 to 26.
+unfoldable pub tested : (n m : ℕ) (s p u v : List ℕ) → List Bool
+tested n m s p u v =
+    let S : Sheet = sheetOf n m s in
+    sizesOk n m (length s) (length p) (length u) (length v)
+    ∷ cellsOk (n * m) s
+    ∷ pairingOk S (at p)
+    ∷ (numbersOk n (at u) && numbersOk m (at v))
+    ∷ scoresOk S (at u) (at v)
+    ∷ totalsOk S (at p) (at u) (at v)
+    ∷ []
+
+in-order : (a b c d e f : Bool) → refuse 21 a (refuse 22 b (refuse 23 c (refuse 24 d (refuse 25 e (refuse 26 f 0))))) ≡ cond (ltb (firstIndex not (a ∷ b ∷ c ∷ d ∷ e ∷ f ∷ [])) 6) (21 + firstIndex not (a ∷ b ∷ c ∷ d ∷ e ∷ f ∷ [])) 0
+unfolding firstIndex
+in-order false b c d e f = refl
+in-order true false c d e f = refl
+in-order true true false d e f = refl
+in-order true true true false e f = refl
+in-order true true true true false f = refl
+in-order true true true true true false = refl
+in-order true true true true true true = refl
+
+-- The answer is 21 and the place of the first test that fails, or 0 where none does.
+pub answers-in-order : (n m : ℕ) (s p u v : List ℕ) → checkAnswer n m s p u v ≡ cond (ltb (firstIndex not (tested n m s p u v)) 6) (21 + firstIndex not (tested n m s p u v)) 0
+unfolding checkAnswer sheetRefusal tested
+answers-in-order n m s p u v = in-order _ _ _ _ _ _

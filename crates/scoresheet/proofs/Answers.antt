@@ -20,6 +20,10 @@ use Rattle.scoresheet.specs.Call.{roomFor, sheetedBy, sheetBy, sheetedOf
 abbrev pub Answers : Input → List ℕ → Sheeted → List ℕ → Type 0
 Answers i sheet r after = (r ≡ sheetedOf i sheet) × (after ≡ sheetAfter i sheet)
 
+-- two results that meet the promise are equal
+pub one-answer : (i : Input) (sheet : List ℕ) {r r′ : Sheeted} {after after′ : List ℕ} → Answers i sheet r after → Answers i sheet r′ after′ → (r ≡ r′) × (after ≡ after′)
+one-answer i sheet a b = (a .0 ∙ sym (b .0), a .1 ∙ sym (b .1))
+
 refused-with : (k : ℕ) (i : Input) (sheet : List ℕ) → (k ≡ 0 → ⊥) → (Refused k ≡ sheetedBy k i) × (sheet ≡ sheetBy k i sheet)
 unfolding sheetedBy sheetBy
 refused-with zero i sheet h = absurd (h refl)

@@ -1,7 +1,7 @@
 -- A sector's sheet, as the pairing reads it: a cell a pair, each none or a score. Assumes nothing.
-use Prim.Native.Nat.{ℕ, zero, suc, _+_, _*_, _^_, _≤_, _<_}
-use mathlib.Core.Path.{_≡_, refl, sym, ap, _∙_}
-use mathlib.Core.List.{List, [], _∷_, _++_, map}
+use Prim.Native.Nat.{ℕ, zero, suc, _+_, _*_, _^_, _<_}
+use mathlib.Core.Path.{_≡_, refl, sym}
+use mathlib.Core.List.{List, [], _∷_, map}
 use native.Mathlib.Nat.{suc-mul, zero-mul, le-of-suc-le-suc, not-suc-le-zero}
 use native.Mathlib.Omega.{arith}
 use lib.ListN.{length, getD, length-append, List·getD-append}
@@ -11,7 +11,7 @@ use Rattle.scoring.specs.declared.Scored.{Scored}
 use Rattle.scoring.specs.declared.Scored.the-variants.{NotAdmissible, Score}
 use Rattle.scoring.specs.Score.{scoreOf}
 use Rattle.scoring.proofs.ScoreLaws.{score-below}
-use Rattle.matching.specs.Pairing.{none, scoreEnd, at, Sheet, InRange}
+use Rattle.matching.specs.Pairing.{none, scoreEnd, at, InRange}
 use Rattle.intake.specs.Refusals.{Input, dueSlots, Ready}
 use Rattle.scoresheet.specs.Cells.{cellOf, pairCell, rowOf, rowsOf, cellsOf, tracksOf, reportsOf, sectorSheet}
 use Rattle.scoresheet.proofs.Rows.{row-length}

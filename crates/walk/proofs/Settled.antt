@@ -28,7 +28,7 @@ use Rattle.matching.specs.Pairing.{none}
 use Rattle.intake.specs.Refusals.{Input, dueSlots, Ready}
 use Rattle.walk.specs.Table.{freed, pairedSlot, missedSlot, agedSlot, dueRank, settledSlot, settledTable, keptOne, droppedOne, missedAt, missedSum, coastedCount, droppedCount}
 use Rattle.walk.specs.Counting.{Names, SlotSettles}
-use Rattle.walk.proofs.Loops.{outs-at, ranked}
+use Rattle.laws.proofs.Ranks.{outs-at, ranked}
 use Rattle.walk.proofs.Slots.{due-track, waits-on, missed-kept, missed-dropped}
 
 -- the table keeps its number of slots

@@ -19,7 +19,7 @@ use Rattle.matching.specs.Pairing.{none}
 use Rattle.intake.specs.Refusals.{Input, dueSlots, mostSlots, mostDue, Ready}
 use Rattle.scoresheet.proofs.Due.{due-lies, due-well-formed}
 use Rattle.walk.specs.Table.{dueRank, settledSlot, slotPrice, keptOne, droppedOne, missedAt, missedSum}
-use Rattle.walk.proofs.Loops.{not-yet}
+use Rattle.laws.proofs.Ranks.{not-yet}
 use Rattle.walk.specs.Counting.{Settles, SlotSettles}
 
 -- k slots are settled, and rank of them were due: the table is rewritten in place, the prices are filled in

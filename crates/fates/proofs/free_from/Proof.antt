@@ -5,7 +5,7 @@ use lib.ListN.{length}
 use borrow.Author.Tests.{eq-eqb, ne-eqb}
 use Rattle.laws.proofs.Search.{Passed, passed-more, passed-stop, passed-end}
 use Rattle.fates.specs.Fates.{isFree, freeSlot}
-use Rattle.fates.proofs.Loops.{passed-from}
+use Rattle.laws.proofs.Rounds.{passed-from}
 use Rattle.fates.proofs.free_from.Statement.{statement}
 use Rattle.fates.proofs.free_from.Tie as tie
 

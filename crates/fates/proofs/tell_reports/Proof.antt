@@ -7,7 +7,7 @@ use lib.ListN.{length}
 use Rattle.laws.proofs.Fold.{Stepped, stepped-none, Answered, answered-none}
 use Rattle.fates.specs.declared.Told.{Told}
 use Rattle.fates.specs.Fates.{Handed, handed, freeSlot, afterReport, reportNumbers, startedTable, fatesOf, slotsOf, shownOf}
-use Rattle.fates.proofs.Loops.{numbers, round-more, round-upto, round-end, told-more, told-end}
+use Rattle.laws.proofs.Rounds.{numbers, round-more, round-upto, round-end, told-more, told-end}
 use Rattle.fates.proofs.Telling.{fateOut, slotOut, shownOut, report-free, tellable-still}
 use Rattle.fates.proofs.tell_reports.Statement.{statement}
 use Rattle.fates.proofs.tell_reports.Tie as tie

@@ -46,11 +46,11 @@ module _ {B S : Type 0} (step : B → S → S) (Q : S → Type 0) where
 
 -- the answer at a place, from the state that the places before it left
 module _ {B S C : Type 0} (step : B → S → S) (out : B → S → C) where
-  pub outs-at : (n : ℕ) (f : ℕ → B) (s : S) (k : ℕ) (d : C) → k < n → getD (outs step out (listed n f) s) k d ≡ out (f k) (afterAll step (listed k f) s)
+  pub told-at : (n : ℕ) (f : ℕ → B) (s : S) (k : ℕ) (d : C) → k < n → getD (outs step out (listed n f) s) k d ≡ out (f k) (afterAll step (listed k f) s)
   unfolding outs afterAll
-  outs-at zero f s k d h = absurd (not-suc-le-zero h)
-  outs-at (suc n) f s zero d h = refl
-  outs-at (suc n) f s (suc k) d h = outs-at n (λ k. f (suc k)) (step (f 0) s) k d (le-of-suc-le-suc h)
+  told-at zero f s k d h = absurd (not-suc-le-zero h)
+  told-at (suc n) f s zero d h = refl
+  told-at (suc n) f s (suc k) d h = told-at n (λ k. f (suc k)) (step (f 0) s) k d (le-of-suc-le-suc h)
 
 -- ---- a search
 

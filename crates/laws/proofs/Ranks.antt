@@ -1,14 +1,14 @@
 -- Laws of loops over a list: what is not written yet, an answer by its place, a place by its rank among those of its kind. Assumes nothing.
-use Prim.Native.Nat.{ℕ, zero, suc, _+_, _<_}
+use Prim.Native.Nat.{ℕ, zero, suc, _+_, _-_, _≤_, _<_}
 use mathlib.Core.Path.{_≡_, refl, sym, ap, _∙_}
-use mathlib.Core.Bool.{Bool, true, false}
+use mathlib.Core.Bool.{Bool, true, false, cond}
 use mathlib.Core.List.{List, [], _∷_}
 use native.Mathlib.Nat.{add-zero, le-of-suc-le-suc, not-suc-le-zero}
 use native.Mathlib.Omega.{arith}
 use lib.ListN.{length, getD, take, drop}
 use lib.Seq.{getD-drop}
 use Rattle.laws.specs.Lists.{afterAll, outs, indicesFrom}
 use Rattle.laws.proofs.Filled.{Filled}
 
 -- what is not written yet stands as it did
 pub not-yet : {A : Type 0} {whole out out₀ rest : List A} {n : ℕ} (d : A) → Filled whole out out₀ n rest → getD out n d ≡ getD out₀ n d
@@ -39,3 +39,28 @@ module _ {A : Type 0} (p : A → Bool) where
       go : (b : Bool) → p x ≡ b → Ranked (suc base) xs k → Ranked base (x ∷ xs) (suc k)
       go true t w = record { lies = rw t (omega (arith, w .lies)); names = rw t (w .names ∙ omega arith) }
       go false f w = record { lies = rw f (w .lies); names = rw f (w .names ∙ omega arith) }
+
+-- a place that a list of places names is one of the list's, and of the kind
+module _ {A : Type 0} (p : A → Bool) where
+  pub record Named (base : ℕ) (xs : List A) (d : A) (k : ℕ) : Type 0 where
+    pub from : base ≤ k
+    pub within : k < base + length xs
+    pub kind : p (getD xs (k - base) d) ≡ true
+
+  later : {base : ℕ} {x : A} {xs : List A} {d : A} {k : ℕ} → Named (suc base) xs d k → Named base (x ∷ xs) d k
+  later {base} {x} {xs} {d} {k} n =
+      let e : k - base ≡ suc (k - suc base) = omega (arith, n .from) in
+      record { from = omega (arith, n .from); within = omega (arith, n .within); kind = rw e (n .kind) }
+
+  pub named : (base : ℕ) (xs : List A) (d : A) (i : ℕ) → i < length (indicesFrom p base xs) → Named base xs d (getD (indicesFrom p base xs) i 0)
+  unfolding indicesFrom
+  named base [] d i h = absurd (not-suc-le-zero h)
+  named base (x ∷ xs) d i h = go (p x) refl i h (named (suc base) xs d)
+    where
+      here : p x ≡ true → Named base (x ∷ xs) d base
+      here t = let e : base - base ≡ 0 = omega arith in record { from = omega arith; within = omega arith; kind = rw e t }
+
+      go : (b : Bool) → p x ≡ b → (i : ℕ) → i < length (cond b (base ∷ indicesFrom p (suc base) xs) (indicesFrom p (suc base) xs)) → ((i : ℕ) → i < length (indicesFrom p (suc base) xs) → Named (suc base) xs d (getD (indicesFrom p (suc base) xs) i 0)) → Named base (x ∷ xs) d (getD (cond b (base ∷ indicesFrom p (suc base) xs) (indicesFrom p (suc base) xs)) i 0)
+      go true t zero h rest = here t
+      go true t (suc i) h rest = later (rest i (le-of-suc-le-suc h))
+      go false f i h rest = later (rest i h)
