@@ -1,0 +1,4 @@
+-- What one call of a sector promises: refusals, pairings, the answer, counts.
+pub mod Calls
+pub mod Pairings
+pub mod Reports

@@ -1,0 +1,64 @@
+-- The pairing of a served call: best for its sector, one to one, what the pairing call and the check say of it. Assumes nothing.
+use Prim.Native.Nat.{ℕ, _≤_, _<_}
+use mathlib.Core.Path.{_≡_, sym, _∙_}
+use mathlib.Core.List.{List}
+use native.Mathlib.Nat.{le-of-eq}
+use native.Mathlib.Omega.{arith}
+use lib.ListN.{length, drop, drop-of-length-le}
+use Rattle.matching.specs.Pairing.{none, Sheet, Admissible, Paired, ValidPairing, misses, Best, at}
+use Rattle.matching.specs.Answer.{Fits, checkAnswer}
+use Rattle.matching.proofs.Theorems.{zero-certificate, best-is-zero, fewest-misses, all-are-served, no-report-unused}
+use Rattle.engine.specs.Call.{Served}
+use Rattle.intake.specs.Refusals.{Input}
+use Rattle.scoresheet.specs.Cells.{tracksOf, reportsOf, cellsOf, sectorSheet}
+use Rattle.sector.specs.Serve.{Chosen, Choice}
+use Rattle.promises.proofs.Calls.{best-of-the-sector}
+
+module _ (i : Input) (c : Chosen) (h : Choice i c) where
+  fits : Fits (tracksOf i) (reportsOf i) (cellsOf i) (c .pairing) (c .prices) (c .discounts)
+  fits = zero-certificate (tracksOf i) (reportsOf i) (cellsOf i) (c .pairing) (c .prices) (c .discounts) (h .accepted) .0
+
+  -- no report has the number that stands for none
+  pub few-reports : reportsOf i ≤ none
+  few-reports = omega (arith, fits .reports-few)
+
+  pub valid-pairing : ValidPairing (sectorSheet i) (at (c .pairing))
+  valid-pairing = best-of-the-sector i c h .valid
+
+  -- No one-to-one pairing of admissible pairs leaves fewer due tracks out.
+  pub fewest-misses-of-the-sector : (Q : ℕ → ℕ) → ValidPairing (sectorSheet i) Q → misses (sectorSheet i) (at (c .pairing)) ≤ misses (sectorSheet i) Q
+  fewest-misses-of-the-sector Q q = fewest-misses (sectorSheet i) (at (c .pairing)) Q (best-of-the-sector i c h) q
+
+  -- A due track is left out only where every report that is admissible for it is some due track's.
+  pub no-free-report-for-a-missed-track : (n j : ℕ) → n < tracksOf i → at (c .pairing) n ≡ none → j < reportsOf i → Admissible (sectorSheet i) n j → (k : ℕ) × ((k < tracksOf i) × (at (c .pairing) k ≡ j))
+  unfolding sectorSheet
+  no-free-report-for-a-missed-track n j l m r a = no-report-unused (sectorSheet i) (at (c .pairing)) (best-of-the-sector i c h) few-reports n j l m r a
+
+  -- The glider, first half: where some one-to-one pairing of admissible pairs serves every due track, every due track is paired.
+  pub glider : (Q : ℕ → ℕ) → ValidPairing (sectorSheet i) Q → ((n : ℕ) → n < tracksOf i → Paired Q n) → (n : ℕ) → n < tracksOf i → Paired (at (c .pairing)) n
+  unfolding sectorSheet
+  glider Q q all = all-are-served (sectorSheet i) (at (c .pairing)) Q (best-of-the-sector i c h) q all
+
+  -- One to one: two due tracks with the same report are the same track.
+  pub one-to-one : (n k : ℕ) → n < tracksOf i → k < tracksOf i → Paired (at (c .pairing)) n → at (c .pairing) n ≡ at (c .pairing) k → n ≡ k
+  unfolding sectorSheet
+  one-to-one n k a b p e = valid-pairing .once n k a b p e
+
+  -- ---- the three calls
+
+  -- With lists of a sector's sizes lent, what the sector call chose is what the pairing call promises of the sector's own sheet.
+  pub three-calls-agree : (p u v : List ℕ) → length p ≡ tracksOf i → length u ≡ tracksOf i → length v ≡ reportsOf i → Served (tracksOf i) (reportsOf i) (cellsOf i) p u v (c .pairing) (c .prices) (c .discounts)
+  three-calls-agree p u v a b d = record {
+    accepted = h .accepted;
+    pairing-beyond = both-end (tracksOf i) (c .pairing) p (h .number-each) a;
+    prices-beyond = both-end (tracksOf i) (c .prices) u (h .price-each) b;
+    discounts-beyond = both-end (reportsOf i) (c .discounts) v (h .discount-each) d;
+  }
+    where
+      both-end : (n : ℕ) (x y : List ℕ) → length x ≡ n → length y ≡ n → drop n x ≡ drop n y
+      both-end n x y e f = drop-of-length-le x (le-of-eq e) ∙ sym (drop-of-length-le y (le-of-eq f))
+
+  -- With the sector call's prices and discounts the check accepts every best pairing of the sheet.
+  pub check-accepts-every-best : (q : List ℕ) → tracksOf i ≤ length q → Best (sectorSheet i) (at q) → checkAnswer (tracksOf i) (reportsOf i) (cellsOf i) q (c .prices) (c .discounts) ≡ 0
+  unfolding sectorSheet
+  check-accepts-every-best q l b = best-is-zero (tracksOf i) (reportsOf i) (cellsOf i) (c .pairing) q (c .prices) (c .discounts) (h .accepted) l b

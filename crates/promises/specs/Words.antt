@@ -1,0 +1,41 @@
+-- What the answer of a served call says of one report and of one due track; P is the pairing. Assumes nothing.
+use Prim.Native.Nat.{ℕ, _≤_, _<_}
+use mathlib.Core.Path.{_≡_}
+use mathlib.Core.List.{List, []}
+use lib.ListN.{length, getD}
+use Rattle.records.specs.declared.Track.{Track}
+use Rattle.records.specs.Bytes.{trackOf}
+use Rattle.matching.specs.Pairing.{at}
+use Rattle.intake.specs.Refusals.{Input, dueSlots}
+use Rattle.scoresheet.specs.Cells.{tracksOf}
+use Rattle.walk.specs.Table.{settledTable}
+use Rattle.fates.specs.Fates.{slotsOf, shownOf}
+use Rattle.sector.specs.Serve.{reportsIn, fatesIn}
+
+-- what report j is told: its fate, its slot, whether it is shown
+abbrev pub fateAt : Input → List ℕ → ℕ → ℕ
+fateAt i P j = getD (fatesIn i P) j 0
+
+abbrev pub slotAt : Input → List ℕ → ℕ → ℕ
+slotAt i P j = getD (slotsOf (reportsIn i) P (settledTable i P)) j 0
+
+abbrev pub shownAt : Input → List ℕ → ℕ → ℕ
+shownAt i P j = getD (shownOf (reportsIn i) P (settledTable i P)) j 0
+
+-- the slot of the n-th due track, and that track as the call found it
+abbrev pub slotOfDue : Input → ℕ → ℕ
+slotOfDue i n = getD (dueSlots (i .table)) n 0
+
+abbrev pub dueTrack : Input → ℕ → Track
+dueTrack i n = trackOf (getD (i .table) (slotOfDue i n) [])
+
+-- the third update shows a track
+abbrev pub updatesBefore : ℕ
+updatesBefore = 2
+
+-- report j is paired with the due track at some place, which had two updates or more when the call came
+pub record PairedWithOld (i : Input) (P : List ℕ) (j : ℕ) : Type 0 where
+  pub place : ℕ
+  pub due : place < tracksOf i
+  pub has : at P place ≡ j
+  pub old : updatesBefore ≤ dueTrack i place .updates
