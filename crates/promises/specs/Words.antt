@@ -2,14 +2,14 @@
 use Prim.Native.Nat.{ℕ, _≤_, _<_}
 use mathlib.Core.Path.{_≡_}
 use mathlib.Core.List.{List, []}
-use lib.ListN.{length, getD}
+use lib.ListN.{getD}
 use Rattle.records.specs.declared.Track.{Track}
 use Rattle.records.specs.Bytes.{trackOf}
 use Rattle.matching.specs.Pairing.{at}
 use Rattle.intake.specs.Refusals.{Input, dueSlots}
 use Rattle.scoresheet.specs.Cells.{tracksOf}
 use Rattle.walk.specs.Table.{settledTable}
-use Rattle.fates.specs.Fates.{slotsOf, shownOf}
+use Rattle.fates.specs.Fates.{paired, slotsOf, shownOf}
 use Rattle.sector.specs.Serve.{reportsIn, fatesIn}
 
 -- what report j is told: its fate, its slot, whether it is shown
@@ -39,3 +39,14 @@ pub record PairedWithOld (i : Input) (P : List ℕ) (j : ℕ) : Type 0 where
   pub due : place < tracksOf i
   pub has : at P place ≡ j
   pub old : updatesBefore ≤ dueTrack i place .updates
+
+-- report j is told that it is paired, in the slot of the n-th due track
+pub record ToldPaired (i : Input) (P : List ℕ) (j n : ℕ) : Type 0 where
+  pub fate : fateAt i P j ≡ paired
+  pub slot : slotAt i P j ≡ slotOfDue i n
+
+-- the shown mark of report j is 1 exactly when it is so paired, else 0
+pub record ShownExactlyWhen (i : Input) (P : List ℕ) (j : ℕ) : Type 0 where
+  pub only : shownAt i P j ≡ 1 → PairedWithOld i P j
+  pub when : PairedWithOld i P j → shownAt i P j ≡ 1
+  pub otherwise : (PairedWithOld i P j → ⊥) → shownAt i P j ≡ 0
