@@ -2,3 +2,7 @@
 pub mod Calls
 pub mod Pairings
 pub mod Reports
+pub mod Answers
+pub mod Tallies
+pub mod Counts
+pub mod Held

@@ -34,10 +34,10 @@ module _ (i : Input) (c : Chosen) (h : Choice i c) where
   unfolding sectorSheet
   no-free-report-for-a-missed-track n j l m r a = no-report-unused (sectorSheet i) (at (c .pairing)) (best-of-the-sector i c h) few-reports n j l m r a
 
-  -- The glider, first half: where some one-to-one pairing of admissible pairs serves every due track, every due track is paired.
-  pub glider : (Q : ℕ → ℕ) → ValidPairing (sectorSheet i) Q → ((n : ℕ) → n < tracksOf i → Paired Q n) → (n : ℕ) → n < tracksOf i → Paired (at (c .pairing)) n
+  -- Where some one-to-one pairing of admissible pairs serves every due track, every due track is paired.
+  pub every-due-track-is-paired : (Q : ℕ → ℕ) → ValidPairing (sectorSheet i) Q → ((n : ℕ) → n < tracksOf i → Paired Q n) → (n : ℕ) → n < tracksOf i → Paired (at (c .pairing)) n
   unfolding sectorSheet
-  glider Q q all = all-are-served (sectorSheet i) (at (c .pairing)) Q (best-of-the-sector i c h) q all
+  every-due-track-is-paired Q q all = all-are-served (sectorSheet i) (at (c .pairing)) Q (best-of-the-sector i c h) q all
 
   -- One to one: two due tracks with the same report are the same track.
   pub one-to-one : (n k : ℕ) → n < tracksOf i → k < tracksOf i → Paired (at (c .pairing)) n → at (c .pairing) n ≡ at (c .pairing) k → n ≡ k

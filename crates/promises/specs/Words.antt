@@ -1,13 +1,17 @@
 -- What the answer of a served call says of one report and of one due track; P is the pairing. Assumes nothing.
 use Prim.Native.Nat.{ℕ, _≤_, _<_}
 use mathlib.Core.Path.{_≡_}
+use mathlib.Core.Bool.{Bool}
 use mathlib.Core.List.{List, []}
-use lib.ListN.{getD}
+use lib.Dec.{eqb}
+use lib.ListN.{length, getD}
+use Rattle.laws.specs.Lists.{indicesFrom}
 use Rattle.records.specs.declared.Track.{Track}
-use Rattle.records.specs.Bytes.{trackOf}
+use Rattle.records.specs.Fields.{held}
+use Rattle.records.specs.Bytes.{markAt, trackOf}
 use Rattle.matching.specs.Pairing.{at}
 use Rattle.intake.specs.Refusals.{Input, dueSlots}
-use Rattle.scoresheet.specs.Cells.{tracksOf}
+use Rattle.scoresheet.specs.Cells.{tracksOf, reportsOf}
 use Rattle.walk.specs.Table.{settledTable}
 use Rattle.fates.specs.Fates.{paired, slotsOf, shownOf}
 use Rattle.sector.specs.Serve.{reportsIn, fatesIn}
@@ -50,3 +54,18 @@ pub record ShownExactlyWhen (i : Input) (P : List ℕ) (j : ℕ) : Type 0 where
   pub only : shownAt i P j ≡ 1 → PairedWithOld i P j
   pub when : PairedWithOld i P j → shownAt i P j ≡ 1
   pub otherwise : (PairedWithOld i P j → ⊥) → shownAt i P j ≡ 0
+
+-- the n-th due track has a report, which is told so; and that report is shown where the track had two updates or more
+pub record TrackServed (i : Input) (P : List ℕ) (n : ℕ) : Type 0 where
+  pub report : ℕ
+  pub here : report < reportsOf i
+  pub has : at P n ≡ report
+  pub told : ToldPaired i P report n
+  pub shown : updatesBefore ≤ dueTrack i n .updates → shownAt i P report ≡ 1
+
+-- how many slots of a table hold a track
+unfoldable pub isHeld : List ℕ → Bool
+isHeld slot = eqb (at slot markAt) held
+
+unfoldable pub heldCount : List (List ℕ) → ℕ
+heldCount table = length (indicesFrom isHeld 0 table)

@@ -1,0 +1,111 @@
+-- Held slots after a call: those before it, with those started and without those dropped. Assumes nothing.
+use Prim.Native.Nat.{ℕ, _+_, _<_}
+use mathlib.Core.Path.{_≡_, refl, sym, ap, _∙_}
+use mathlib.Core.Bool.{Bool, true, false, cond, _&&_}
+use mathlib.Core.List.{List, []}
+use native.Mathlib.Omega.{arith}
+use borrow.Author.Tests.{eqb-true, eq-eqb, ne-eqb, ltb-true, leb-false}
+use lib.Dec.{eqb, leb, ltb}
+use lib.ListN.{length, getD, set}
+use Rattle.laws.specs.Lists.{firstIndex}
+use Rattle.laws.specs.Sums.{Sum}
+use Rattle.laws.proofs.Search.{first-found}
+use Rattle.laws.proofs.Sums.{sum-add, sum-same}
+use Rattle.laws.proofs.Tests.{and-left}
+use Rattle.records.specs.declared.Track.{Track}
+use Rattle.records.specs.declared.Report.{Report}
+use Rattle.records.specs.Fields.{free, held, isWeak, allowance}
+use Rattle.records.specs.Bytes.{markAt, waitAt, trackOf, bytesOf, reportOf, slotDue}
+use Rattle.settling.specs.declared.Unpaired.{Unpaired}
+use Rattle.settling.specs.declared.Unpaired.the-variants.{Kept, Dropped}
+use Rattle.settling.specs.Settle.{updatedOf, missedOf, coastedOf, startedOf, agedOf}
+use Rattle.matching.specs.Pairing.{none, at}
+use Rattle.intake.specs.Refusals.{Input, dueSlots}
+use Rattle.scoresheet.specs.Cells.{tracksOf}
+use Rattle.walk.specs.Table.{freed, pairedSlot, unpairedBytes, missedSlot, agedSlot, settledSlot, settledTable, droppedOne, missedAt, missedSum, droppedCount}
+use Rattle.walk.proofs.Settled.{settled-length, rankOf, due-at-rank, settled-at}
+use Rattle.fates.specs.declared.Told.{Told}
+use Rattle.fates.specs.Fates.{started, weak, full, noSlot, Handed, isFree, freeSlot, ownerOf, slotOf, toldPaired, toldUnpaired, afterUnpaired, toldOf, afterReport, reportNumbers, startedTable, fatesOf, countOf}
+use Rattle.fates.proofs.Telling.{fateOut}
+use Rattle.sector.specs.Serve.{Lent, Chosen, reportsIn, fatesIn, tally, countsOf, afterOf}
+use Rattle.promises.specs.Words.{isHeld, heldCount}
+use Rattle.promises.proofs.Tallies.{count-places, sum-by-rank, count-set, raised-by-answers}
+
+-- 1 for a slot that holds a track
+abbrev one : List ℕ → ℕ
+one slot = cond (isHeld slot) 1 0
+
+-- ---- the slots, as pairing leaves them
+
+held-bytes : (t : Track) → t .mark ≡ held → isHeld (bytesOf t) ≡ true
+unfolding isHeld bytesOf
+held-bytes t e = eq-eqb (t .mark) held e
+
+freed-not-held : isHeld freed ≡ false
+unfolding isHeld freed
+freed-not-held = refl
+
+due-held : (slot : List ℕ) → slotDue slot ≡ true → isHeld slot ≡ true
+unfolding slotDue isHeld
+due-held slot d = and-left (eqb (at slot markAt) held) (eqb (at slot waitAt) 0) d
+
+paired-held : (s : ℕ) (report slot : List ℕ) → isHeld (pairedSlot s report slot) ≡ true
+unfolding pairedSlot updatedOf
+paired-held s report slot = held-bytes _ refl
+
+aged-mark : (slot : List ℕ) → eqb (at (bytesOf (agedOf (trackOf slot))) markAt) held ≡ eqb (at slot markAt) held
+unfolding bytesOf agedOf trackOf
+aged-mark slot = refl
+
+aged-held : (slot : List ℕ) → isHeld (agedSlot slot) ≡ isHeld slot
+unfolding agedSlot isHeld
+aged-held slot = go (eqb (at slot markAt) held) refl
+  where
+    go : (b : Bool) → eqb (at slot markAt) held ≡ b → eqb (at (cond b (bytesOf (agedOf (trackOf slot))) slot) markAt) held ≡ eqb (at slot markAt) held
+    go true e = aged-mark slot
+    go false e = refl
+
+missed-mark : (t : Track) (s : ℕ) → missedOf t s .mark ≡ held
+unfolding missedOf
+missed-mark t s = refl
+
+kept-one : (t : Track) → t .mark ≡ held → one (unpairedBytes (Kept t)) + droppedOne (Kept t) ≡ 1
+unfolding unpairedBytes droppedOne
+kept-one t e = rw (held-bytes t e)
+
+dropped-one : one (unpairedBytes Dropped) + droppedOne Dropped ≡ 1
+unfolding unpairedBytes droppedOne
+dropped-one = rw freed-not-held
+
+-- a due track that is left out is held or dropped
+missed-held : (s : ℕ) (slot : List ℕ) → one (missedSlot s slot) + droppedOne (coastedOf (trackOf slot) s) ≡ 1
+unfolding missedSlot coastedOf
+missed-held s slot = go (ltb (allowance (trackOf slot .updates)) (trackOf slot .misses + 1))
+  where
+    go : (b : Bool) → one (unpairedBytes (cond b Dropped (Kept (missedOf (trackOf slot) s)))) + droppedOne (cond b Dropped (Kept (missedOf (trackOf slot) s))) ≡ 1
+    go true = dropped-one
+    go false = kept-one (missedOf (trackOf slot) s) (missed-mark (trackOf slot) s)
+
+-- what a slot loses, by its rank
+abbrev lost : Input → List ℕ → ℕ → ℕ
+lost i P rank = cond (eqb (at P rank) none) (droppedOne (missedAt (i .table) (i .sector) rank)) 0
+
+-- each slot: what it held is what it holds, and what was dropped there
+slot-keeps : (s : ℕ) (batch : List (List ℕ)) (P slot : List ℕ) (rank gone : ℕ) → (slotDue slot ≡ true → gone ≡ cond (eqb (at P rank) none) (droppedOne (coastedOf (trackOf slot) s)) 0) → one (settledSlot s batch P slot rank) + cond (slotDue slot) gone 0 ≡ one slot
+unfolding settledSlot
+slot-keeps s batch P slot rank gone w = go (slotDue slot) refl (eqb (at P rank) none) refl
+  where
+    go : (b : Bool) → slotDue slot ≡ b → (n : Bool) → eqb (at P rank) none ≡ n → one (cond b (cond n (missedSlot s slot) (pairedSlot s (getD batch (at P rank) []) slot)) (agedSlot slot)) + cond b gone 0 ≡ one slot
+    go true d true e = rw (due-held slot d, w d, e) (missed-held s slot)
+    go true d false e = rw (due-held slot d, w d, e, paired-held s (getD batch (at P rank) []) slot) refl
+    go false d n e = rw (aged-held slot) (omega arith)
+
+rank-lost : (i : Input) (P : List ℕ) (k : ℕ) → k < length (i .table) → slotDue (getD (i .table) k []) ≡ true → lost i P (rankOf (i .table) k) ≡ cond (eqb (at P (rankOf (i .table) k)) none) (droppedOne (coastedOf (trackOf (getD (i .table) k [])) (i .sector))) 0
+unfolding missedAt
+rank-lost i P k l d = rw (due-at-rank i k l d .1)
+
+settled-held : (i : Input) (P : List ℕ) → heldCount (settledTable i P) + droppedCount i (tracksOf i) P ≡ heldCount (i .table)
+unfolding heldCount droppedCount missedSum tracksOf dueSlots
+settled-held i P =
+    rw (count-places isHeld (settledTable i P) [], settled-length i P, count-places isHeld (i .table) [], ← sum-by-rank slotDue (i .table) [] (lost i P))
+    (sym (sum-add (length (i .table)) _ _) ∙ sum-same (length (i .table)) _ _ (λ k l. rw (settled-at i P k l) (slot-keeps (i .sector) (i .batch) P (getD (i .table) k []) (rankOf (i .table) k) (lost i P (rankOf (i .table) k)) (λ d. rank-lost i P k l d))))
