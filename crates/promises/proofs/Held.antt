@@ -109,3 +109,50 @@ unfolding heldCount droppedCount missedSum tracksOf dueSlots
 settled-held i P =
     rw (count-places isHeld (settledTable i P) [], settled-length i P, count-places isHeld (i .table) [], ← sum-by-rank slotDue (i .table) [] (lost i P))
     (sym (sum-add (length (i .table)) _ _) ∙ sum-same (length (i .table)) _ _ (λ k l. rw (settled-at i P k l) (slot-keeps (i .sector) (i .batch) P (getD (i .table) k []) (rankOf (i .table) k) (lost i P (rankOf (i .table) k)) (λ d. rank-lost i P k l d))))
+
+-- ---- the tracks that start
+
+-- a slot that is free is not held, and the lowest free one is
+free-not-held : (slot : List ℕ) → isFree slot ≡ true → isHeld slot ≡ false
+unfolding isFree isHeld
+free-not-held slot e =
+    let f : at slot markAt ≡ free = eqb-true (at slot markAt) free e in
+    ne-eqb (at slot markAt) held (λ z. omega arith)
+
+start-adds : (p : Report) (s : ℕ) (table : List (List ℕ)) → freeSlot table < length table → heldCount (set table (freeSlot table) (bytesOf (startedOf p s))) ≡ heldCount table + 1
+unfolding heldCount freeSlot startedOf
+start-adds p s table l =
+    count-set isHeld table (firstIndex isFree table) (bytesOf (startedOf p s)) [] l (free-not-held _ (first-found isFree table [] l)) (held-bytes (startedOf p s) refl)
+
+-- a report without a pair holds one slot more exactly where its fate is started
+abbrev toldBy : List (List ℕ) → Bool → Bool → Told
+toldBy table w f =
+    cond w (record { fate = weak; slot = noSlot; shown = 0 })
+    (cond f (record { fate = full; slot = noSlot; shown = 0 }) (record { fate = started; slot = freeSlot table; shown = 0 }))
+
+unpaired-adds : (p : Report) (s : ℕ) (table : List (List ℕ)) → heldCount (afterUnpaired p s table) ≡ heldCount table + cond (eqb started (toldUnpaired p table .fate)) 1 0
+unfolding afterUnpaired toldUnpaired
+unpaired-adds p s table = go (isWeak p) (leb (length table) (freeSlot table)) refl
+  where
+    go : (w f : Bool) → leb (length table) (freeSlot table) ≡ f → heldCount (cond (eqb (toldBy table w f .fate) started) (set table (freeSlot table) (bytesOf (startedOf p s))) table) ≡ heldCount table + cond (eqb started (toldBy table w f .fate)) 1 0
+    go true f e = omega arith
+    go false true e = omega arith
+    go false false e = start-adds p s table (leb-false _ _ e)
+
+report-adds : (h : Handed) (P : List ℕ) (j : ℕ) (table : List (List ℕ)) → heldCount (afterReport h P j table) ≡ heldCount table + cond (eqb started (fateOut h P j table)) 1 0
+unfolding afterReport toldOf toldPaired
+report-adds h P j table = go (ltb (ownerOf P j) (length P))
+  where
+    go : (b : Bool) → heldCount (cond b table (afterUnpaired (reportOf (getD (h .batch) j [])) (h .sector) table)) ≡ heldCount table + cond (eqb started ((cond {A = Told} b (toldPaired (slotOf h P j) table) (toldUnpaired (reportOf (getD (h .batch) j [])) table)) .fate)) 1 0
+    go true = omega arith
+    go false = unpaired-adds (reportOf (getD (h .batch) j [])) (h .sector) table
+
+started-held : (h : Handed) (P : List ℕ) (table : List (List ℕ)) → heldCount (startedTable h P table) ≡ heldCount table + countOf started (fatesOf h P table)
+unfolding startedTable fatesOf countOf
+started-held h P table = raised-by-answers (afterReport h P) (fateOut h P) (eqb started) heldCount (report-adds h P) (reportNumbers h) table
+
+-- Held slots after = before + started - dropped (01, 'After pairing'), said with the dropped ones on the other side.
+pub held-slots-balance : (i : Input) (l : Lent) (c : Chosen) → heldCount (afterOf i l c .table) + countsOf i (c .pairing) .dropped ≡ heldCount (i .table) + countsOf i (c .pairing) .started
+unfolding afterOf countsOf tally fatesIn
+held-slots-balance i l c =
+    omega (arith, started-held (reportsIn i) (c .pairing) (settledTable i (c .pairing)), settled-held i (c .pairing))
