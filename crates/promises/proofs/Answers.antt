@@ -1,10 +1,11 @@
 -- The answer of a served call, entry by entry, and what the controller sees: the glider that is no longer lost. Assumes nothing.
-use Prim.Native.Nat.{ℕ, _<_}
+use Prim.Native.Nat.{ℕ, _+_, _<_}
 use mathlib.Core.Path.{_≡_, refl, ap, _∙_}
-use mathlib.Core.Bool.{true, false}
-use mathlib.Core.List.{List, [], _++_}
+use mathlib.Core.Bool.{true, false, cond}
+use mathlib.Core.List.{List, [], _∷_, _++_}
 use native.Mathlib.Omega.{arith}
-use lib.ListN.{length, getD, drop, List·getD-append}
+use lib.ListN.{length, getD, take, drop, List·getD-append}
+use Rattle.laws.specs.Lists.{afterAll}
 use Rattle.laws.proofs.Fold.{length-outs}
 use Rattle.records.specs.Bytes.{slotDue}
 use Rattle.matching.specs.Pairing.{Paired, ValidPairing, at}
@@ -13,22 +14,17 @@ use Rattle.scoresheet.specs.Cells.{tracksOf, reportsOf, sectorSheet}
 use Rattle.scoresheet.proofs.Due.{due-lies, due-is-due}
 use Rattle.walk.specs.Table.{dueRank, slotPrice, settledTable, slotPrices}
 use Rattle.walk.proofs.Loops.{outs-at}
+use Rattle.walk.proofs.Settled.{rankOf}
 use Rattle.fates.specs.Fates.{slotsOf, shownOf}
 use Rattle.fates.proofs.Answers.{length-fates, length-slots, length-shown}
 use Rattle.sector.specs.declared.Counts.{Counts}
 use Rattle.sector.specs.Serve.{Lent, Chosen, Choice, reportsIn, fatesIn, afterOf, ServedWith}
-use Rattle.promises.specs.Words.{fateAt, slotAt, shownAt, slotOfDue, ToldPaired, TrackServed}
+use Rattle.promises.specs.Words.{fateAt, slotAt, shownAt, slotOfDue, ToldPaired, TrackServed, SeenServed, AnswersTold}
 use Rattle.promises.proofs.Pairings.{valid-pairing, every-due-track-is-paired}
-use Rattle.promises.proofs.Reports.{pairing-is-read-off, shown-exactly-when}
+use Rattle.promises.proofs.Tallies.{count, count-none, count-cons}
+use Rattle.promises.proofs.Reports.{rank-is, pairing-is-read-off, shown-exactly-when}
 
 -- ---- entry by entry
-
--- The first entries of the answer's lists are what the reports are told, and the discounts.
-pub record AnswersTold (i : Input) (c : Chosen) (l′ : Lent) (j : ℕ) : Type 0 where
-  pub fate : getD (l′ .fates) j 0 ≡ fateAt i (c .pairing) j
-  pub slot : getD (l′ .slots) j 0 ≡ slotAt i (c .pairing) j
-  pub shown : getD (l′ .shown) j 0 ≡ shownAt i (c .pairing) j
-  pub discount : getD (l′ .discounts) j 0 ≡ at (c .discounts) j
 
 module _ (i : Input) (c : Chosen) (l : Lent) (h : Choice i c) (j : ℕ) (here : j < reportsOf i) where
   front : (xs rest : List ℕ) → length xs ≡ length (i .batch) → getD (xs ++ rest) j 0 ≡ getD xs j 0
@@ -45,6 +41,7 @@ module _ (i : Input) (c : Chosen) (l : Lent) (h : Choice i c) (j : ℕ) (here : 
         discount = front (c .discounts) (drop (reportsOf i) (l .discounts)) (h .discount-each);
       }
 
+-- The first entries of the answer's lists are what the reports are told, and the discounts.
 pub answers-are-told : (i : Input) (l l′ : Lent) (counts : Counts) (s : ServedWith i l l′ counts) (j : ℕ) → j < reportsOf i → AnswersTold i (s .chosen) l′ j
 answers-are-told i l l′ counts s j here = rw (s .left) (told-after i (s .chosen) l (s .choice) j here)
 
@@ -64,7 +61,47 @@ module _ (i : Input) (c : Chosen) (h : Choice i c) where
         shown = λ u. shown-exactly-when i c h (at (c .pairing) n) here .when (record { place = n; due = l; has = refl; old = u });
       }
 
-  -- The glider: where some one-to-one pairing of admissible pairs serves every due track, the call serves every due track, and each that had
-  -- two updates or more is shown.
-  pub glider : (Q : ℕ → ℕ) → ValidPairing (sectorSheet i) Q → ((n : ℕ) → n < tracksOf i → Paired Q n) → (n : ℕ) → n < tracksOf i → TrackServed i (c .pairing) n
-  glider Q q all n l = paired-track-is-served n l (every-due-track-is-paired i c h Q q all n l)
+-- The glider: where some one-to-one pairing of admissible pairs serves every due track, the answer shows every due track served, and each that
+-- had two updates or more shown.
+pub glider : (i : Input) (l l′ : Lent) (counts : Counts) → ServedWith i l l′ counts → (Q : ℕ → ℕ) → ValidPairing (sectorSheet i) Q → ((n : ℕ) → n < tracksOf i → Paired Q n) → (n : ℕ) → n < tracksOf i → SeenServed i l′ n
+glider i l l′ counts s Q q all n b =
+    let w : TrackServed i (s .chosen .pairing) n = paired-track-is-served i (s .chosen) (s .choice) n b (every-due-track-is-paired i (s .chosen) (s .choice) Q q all n b) in
+    let a : AnswersTold i (s .chosen) l′ (w .report) = answers-are-told i l l′ counts s (w .report) (w .here) in
+    record {
+      report = w .report;
+      here = w .here;
+      fate = a .fate ∙ w .told .fate;
+      slot = a .slot ∙ w .told .slot;
+      shown = λ u. a .shown ∙ w .shown u;
+    }
+
+-- ---- prices
+
+-- the rank that the prices are counted by
+ranks : (slots : List (List ℕ)) (s : ℕ) → afterAll dueRank slots s ≡ s + count slotDue slots
+unfolding afterAll dueRank
+ranks [] s = omega (arith, count-none slotDue)
+ranks (x ∷ slots) s = omega (arith, ranks slots (s + cond (slotDue x) 1 0), count-cons slotDue x slots)
+
+price-at : (i : Input) (u : List ℕ) (k : ℕ) → k < length (i .table) → getD (slotPrices i u) k 0 ≡ slotPrice u (getD (i .table) k []) (rankOf (i .table) k)
+unfolding slotPrices dueSlots
+price-at i u k l =
+    outs-at dueRank (slotPrice u) (i .table) 0 k [] 0 l
+    ∙ ap (slotPrice u (getD (i .table) k [])) (ranks (take k (i .table)) 0 ∙ omega arith)
+
+price-in-answer : (i : Input) (l : Lent) (c : Chosen) (k : ℕ) → k < length (i .table) → getD (afterOf i l c .prices) k 0 ≡ slotPrice (c .prices) (getD (i .table) k []) (rankOf (i .table) k)
+unfolding afterOf slotPrices
+price-in-answer i l c k h =
+    List·getD-append (slotPrices i (c .prices)) (drop (length (i .table)) (l .prices)) 0 k (rw (length-outs dueRank (slotPrice (c .prices)) (i .table) 0) h)
+    ∙ price-at i (c .prices) k h
+
+-- The price of the n-th due track stands at its slot, and 0 at a slot that is not due.
+pub due-price-is-read-off : (i : Input) (l l′ : Lent) (counts : Counts) (s : ServedWith i l l′ counts) (n : ℕ) → n < tracksOf i → getD (l′ .prices) (slotOfDue i n) 0 ≡ at (s .chosen .prices) n
+unfolding slotPrice tracksOf
+due-price-is-read-off i l l′ counts s n h =
+    rw (s .left) (price-in-answer i l (s .chosen) (slotOfDue i n) (due-lies i n h) ∙ rw (due-is-due i n h, rank-is i n h))
+
+pub other-price-is-zero : (i : Input) (l l′ : Lent) (counts : Counts) (s : ServedWith i l l′ counts) (k : ℕ) → k < length (i .table) → slotDue (getD (i .table) k []) ≡ false → getD (l′ .prices) k 0 ≡ 0
+unfolding slotPrice
+other-price-is-zero i l l′ counts s k h d =
+    rw (s .left) (price-in-answer i l (s .chosen) k h ∙ rw d)

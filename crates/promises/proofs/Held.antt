@@ -19,16 +19,18 @@ use Rattle.records.specs.Bytes.{markAt, waitAt, trackOf, bytesOf, reportOf, slo
 use Rattle.settling.specs.declared.Unpaired.{Unpaired}
 use Rattle.settling.specs.declared.Unpaired.the-variants.{Kept, Dropped}
 use Rattle.settling.specs.Settle.{updatedOf, missedOf, coastedOf, startedOf, agedOf}
-use Rattle.matching.specs.Pairing.{none, at}
+use Rattle.matching.specs.Pairing.{none, scoreSum, at}
 use Rattle.intake.specs.Refusals.{Input, dueSlots}
-use Rattle.scoresheet.specs.Cells.{tracksOf}
+use Rattle.scoresheet.specs.Cells.{tracksOf, sectorSheet}
 use Rattle.walk.specs.Table.{freed, pairedSlot, unpairedBytes, missedSlot, agedSlot, settledSlot, settledTable, droppedOne, missedAt, missedSum, droppedCount}
 use Rattle.walk.proofs.Settled.{settled-length, rankOf, due-at-rank, settled-at}
 use Rattle.fates.specs.declared.Told.{Told}
 use Rattle.fates.specs.Fates.{started, weak, full, noSlot, Handed, isFree, freeSlot, ownerOf, slotOf, toldPaired, toldUnpaired, afterUnpaired, toldOf, afterReport, reportNumbers, startedTable, fatesOf, countOf}
 use Rattle.fates.proofs.Telling.{fateOut}
-use Rattle.sector.specs.Serve.{Lent, Chosen, reportsIn, fatesIn, tally, countsOf, afterOf}
-use Rattle.promises.specs.Words.{isHeld, heldCount}
+use Rattle.sector.specs.declared.Counts.{Counts}
+use Rattle.sector.specs.Serve.{Lent, Chosen, Choice, reportsIn, fatesIn, tally, countsOf, afterOf, ServedWith}
+use Rattle.promises.specs.Words.{isHeld, heldCount, Accounted}
+use Rattle.promises.proofs.Counts.{reports-all-counted, paired-count-is-pairs, due-tracks-all-counted}
 use Rattle.promises.proofs.Tallies.{count-places, sum-by-rank, count-set, raised-by-answers}
 
 -- 1 for a slot that holds a track
@@ -156,3 +158,20 @@ pub held-slots-balance : (i : Input) (l : Lent) (c : Chosen) → heldCount (afte
 unfolding afterOf countsOf tally fatesIn
 held-slots-balance i l c =
     omega (arith, started-held (reportsIn i) (c .pairing) (settledTable i (c .pairing)), settled-held i (c .pairing))
+
+score-counted : (i : Input) (P : List ℕ) → countsOf i P .«score_sum» ≡ scoreSum (sectorSheet i) (at P)
+unfolding countsOf tally
+score-counted i P = refl
+
+counted-all : (i : Input) (l : Lent) (c : Chosen) → Choice i c → Accounted i c (afterOf i l c) (countsOf i (c .pairing))
+counted-all i l c h = record {
+  reports = reports-all-counted i (c .pairing);
+  due-tracks = omega (arith, due-tracks-all-counted i c h);
+  as-paired = paired-count-is-pairs i c h;
+  as-scored = score-counted i (c .pairing);
+  slots = held-slots-balance i l c;
+}
+
+-- Counts: each report has one fate, each due track is paired, coasts or is dropped, and the slots that hold a track balance.
+pub counts : (i : Input) (l l′ : Lent) (n : Counts) (s : ServedWith i l l′ n) → Accounted i (s .chosen) l′ n
+counts i l l′ n s = rw (s .counted, s .left) (counted-all i l (s .chosen) (s .choice))

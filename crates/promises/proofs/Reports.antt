@@ -60,7 +60,7 @@ due-slots-differ i n k a b e =
     (le-or-lt n k)
 
 -- the n-th due track's rank is n
-rank-is : (i : Input) (n : ℕ) → n < tracksOf i → rankOf (i .table) (slotOfDue i n) ≡ n
+pub rank-is : (i : Input) (n : ℕ) → n < tracksOf i → rankOf (i .table) (slotOfDue i n) ≡ n
 unfolding tracksOf
 rank-is i n l =
     let w = due-at-rank i (slotOfDue i n) (due-lies i n l) (due-is-due i n l) in

@@ -26,7 +26,7 @@ module _ {A : Type 0} (p : A → Bool) where
       go true = omega (arith, count-from p 1 0 xs)
       go false = omega (arith, count-from p 1 0 xs)
 
-  count-none : count [] ≡ 0
+  pub count-none : count [] ≡ 0
   unfolding indicesFrom
   count-none = refl
 

@@ -1,5 +1,5 @@
 -- What the answer of a served call says of one report and of one due track; P is the pairing. Assumes nothing.
-use Prim.Native.Nat.{ℕ, _≤_, _<_}
+use Prim.Native.Nat.{ℕ, _+_, _≤_, _<_}
 use mathlib.Core.Path.{_≡_}
 use mathlib.Core.Bool.{Bool}
 use mathlib.Core.List.{List, []}
@@ -9,12 +9,13 @@ use Rattle.laws.specs.Lists.{indicesFrom}
 use Rattle.records.specs.declared.Track.{Track}
 use Rattle.records.specs.Fields.{held}
 use Rattle.records.specs.Bytes.{markAt, trackOf}
-use Rattle.matching.specs.Pairing.{at}
+use Rattle.matching.specs.Pairing.{pairs, scoreSum, at}
 use Rattle.intake.specs.Refusals.{Input, dueSlots}
-use Rattle.scoresheet.specs.Cells.{tracksOf, reportsOf}
+use Rattle.scoresheet.specs.Cells.{tracksOf, reportsOf, sectorSheet}
 use Rattle.walk.specs.Table.{settledTable}
 use Rattle.fates.specs.Fates.{paired, slotsOf, shownOf}
-use Rattle.sector.specs.Serve.{reportsIn, fatesIn}
+use Rattle.sector.specs.declared.Counts.{Counts}
+use Rattle.sector.specs.Serve.{Lent, Chosen, reportsIn, fatesIn}
 
 -- what report j is told: its fate, its slot, whether it is shown
 abbrev pub fateAt : Input → List ℕ → ℕ → ℕ
@@ -55,7 +56,7 @@ pub record ShownExactlyWhen (i : Input) (P : List ℕ) (j : ℕ) : Type 0 where
   pub when : PairedWithOld i P j → shownAt i P j ≡ 1
   pub otherwise : (PairedWithOld i P j → ⊥) → shownAt i P j ≡ 0
 
--- the n-th due track has a report, which is told so; and that report is shown where the track had two updates or more
+-- the n-th due track has a report, which is told so, and is shown where the track had two updates or more
 pub record TrackServed (i : Input) (P : List ℕ) (n : ℕ) : Type 0 where
   pub report : ℕ
   pub here : report < reportsOf i
@@ -69,3 +70,30 @@ isHeld slot = eqb (at slot markAt) held
 
 unfoldable pub heldCount : List (List ℕ) → ℕ
 heldCount table = length (indicesFrom isHeld 0 table)
+
+-- the n-th due track, as the answer shows it: some report is told paired in its slot, and is shown where the track had two updates or more
+pub record SeenServed (i : Input) (l′ : Lent) (n : ℕ) : Type 0 where
+  pub report : ℕ
+  pub here : report < reportsOf i
+  pub fate : getD (l′ .fates) report 0 ≡ paired
+  pub slot : getD (l′ .slots) report 0 ≡ slotOfDue i n
+  pub shown : updatesBefore ≤ dueTrack i n .updates → getD (l′ .shown) report 0 ≡ 1
+
+-- the first entries of the answer's lists are what report j is told, and its discount
+pub record AnswersTold (i : Input) (c : Chosen) (l′ : Lent) (j : ℕ) : Type 0 where
+  pub fate : getD (l′ .fates) j 0 ≡ fateAt i (c .pairing) j
+  pub slot : getD (l′ .slots) j 0 ≡ slotAt i (c .pairing) j
+  pub shown : getD (l′ .shown) j 0 ≡ shownAt i (c .pairing) j
+  pub discount : getD (l′ .discounts) j 0 ≡ at (c .discounts) j
+
+-- the counts of a served call account for all there is
+pub record Accounted (i : Input) (c : Chosen) (l′ : Lent) (counts : Counts) : Type 0 where
+  -- each report has one fate
+  pub reports : counts .paired + counts .started + counts .weak + counts .full ≡ reportsOf i
+  -- each due track is paired, coasts or is dropped
+  pub due-tracks : counts .paired + counts .coasted + counts .dropped ≡ tracksOf i
+  -- paired and score sum are those of the pairing
+  pub as-paired : counts .paired ≡ pairs (sectorSheet i) (at (c .pairing))
+  pub as-scored : counts .«score_sum» ≡ scoreSum (sectorSheet i) (at (c .pairing))
+  -- held slots after = before + started - dropped, said with the dropped ones on the other side
+  pub slots : heldCount (l′ .table) + counts .dropped ≡ heldCount (i .table) + counts .started
