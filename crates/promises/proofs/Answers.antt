@@ -1,14 +1,17 @@
 -- The answer of a served call, entry by entry, and what the controller sees: the glider that is no longer lost. Assumes nothing.
 use Prim.Native.Nat.{ℕ, _+_, _<_}
-use mathlib.Core.Path.{_≡_, refl, ap, _∙_}
+use mathlib.Core.Path.{_≡_, refl, sym, ap, _∙_}
+use mathlib.Core.Logic.{⊎-elim}
 use mathlib.Core.Bool.{true, false, cond}
 use mathlib.Core.List.{List, [], _∷_, _++_}
 use native.Mathlib.Omega.{arith}
 use lib.ListN.{length, getD, take, drop, List·getD-append}
+use lib.Seq.{ext-getD}
 use Rattle.laws.specs.Lists.{afterAll}
 use Rattle.laws.proofs.Fold.{length-outs}
+use Rattle.laws.proofs.Stores.{same-or}
 use Rattle.records.specs.Bytes.{slotDue}
-use Rattle.matching.specs.Pairing.{Paired, ValidPairing, at}
+use Rattle.matching.specs.Pairing.{none, Paired, ValidPairing, at}
 use Rattle.intake.specs.Refusals.{Input, dueSlots}
 use Rattle.scoresheet.specs.Cells.{tracksOf, reportsOf, sectorSheet}
 use Rattle.scoresheet.proofs.Due.{due-lies, due-is-due}
@@ -105,3 +108,40 @@ pub other-price-is-zero : (i : Input) (l l′ : Lent) (counts : Counts) (s : Ser
 unfolding slotPrice
 other-price-is-zero i l l′ counts s k h d =
     rw (s .left) (price-in-answer i l (s .chosen) k h ∙ rw d)
+
+-- ---- the choice
+
+module _ (i : Input) (l l′ : Lent) (n m : Counts) (s : ServedWith i l l′ n) (t : ServedWith i l l′ m) where
+  -- a due track that one of two pairings with the same answer serves has the same report in the other
+  same-report : (k : ℕ) → k < tracksOf i → Paired (at (t .chosen .pairing)) k → at (s .chosen .pairing) k ≡ at (t .chosen .pairing) k
+  same-report k b p =
+      let w : TrackServed i (t .chosen .pairing) k = paired-track-is-served i (t .chosen) (t .choice) k b p in
+      let a : AnswersTold i (s .chosen) l′ (w .report) = answers-are-told i l l′ n s (w .report) (w .here) in
+      let d : AnswersTold i (t .chosen) l′ (w .report) = answers-are-told i l l′ m t (w .report) (w .here) in
+      pairing-is-read-off i (s .chosen) (s .choice) (w .report) (w .here) k b .1
+      (record { fate = sym (a .fate) ∙ d .fate ∙ w .told .fate; slot = sym (a .slot) ∙ d .slot ∙ w .told .slot })
+      ∙ sym (w .has)
+
+-- The whole choice can be read off the answer: two choices that leave the same bytes are the same pairing, prices and discounts.
+pub choice-is-read-off : (i : Input) (l l′ : Lent) (n m : Counts) (s : ServedWith i l l′ n) (t : ServedWith i l l′ m) → s .chosen ≡ t .chosen
+choice-is-read-off i l l′ n m s t =
+    same-chosen (s .chosen) (t .chosen)
+    (ext-getD 0 (s .chosen .pairing) (t .chosen .pairing) (s .choice .number-each ∙ sym (t .choice .number-each)) (λ k b. pairing k (rw (s .choice .number-each) at b)))
+    (ext-getD 0 (s .chosen .prices) (t .chosen .prices) (s .choice .price-each ∙ sym (t .choice .price-each)) (λ k b. price k (rw (s .choice .price-each) at b)))
+    (ext-getD 0 (s .chosen .discounts) (t .chosen .discounts) (s .choice .discount-each ∙ sym (t .choice .discount-each)) (λ k b. discount k (rw (s .choice .discount-each) at b)))
+  where
+    same-chosen : (c d : Chosen) → c .pairing ≡ d .pairing → c .prices ≡ d .prices → c .discounts ≡ d .discounts → c ≡ d
+    same-chosen c d e f g = λ k. record { pairing = e k; prices = f k; discounts = g k }
+
+    pairing : (k : ℕ) → k < tracksOf i → at (s .chosen .pairing) k ≡ at (t .chosen .pairing) k
+    pairing k b =
+        ⊎-elim
+        (λ z. ⊎-elim (λ y. z ∙ sym y) (same-report i l l′ n m s t k b) (same-or (at (t .chosen .pairing) k) none))
+        (λ p. sym (same-report i l l′ m n t s k b p))
+        (same-or (at (s .chosen .pairing) k) none)
+
+    price : (k : ℕ) → k < tracksOf i → at (s .chosen .prices) k ≡ at (t .chosen .prices) k
+    price k b = sym (due-price-is-read-off i l l′ n s k b) ∙ due-price-is-read-off i l l′ m t k b
+
+    discount : (k : ℕ) → k < reportsOf i → at (s .chosen .discounts) k ≡ at (t .chosen .discounts) k
+    discount k b = sym (answers-are-told i l l′ n s k b .discount) ∙ answers-are-told i l l′ m t k b .discount

@@ -1,18 +1,44 @@
 -- The pairing of a served call: best for its sector, one to one, what the pairing call and the check say of it. Assumes nothing.
 use Prim.Native.Nat.{ℕ, _≤_, _<_}
-use mathlib.Core.Path.{_≡_, sym, _∙_}
-use mathlib.Core.List.{List}
+use mathlib.Core.Path.{_≡_, refl, sym, ap, _∙_}
+use mathlib.Core.List.{List, []}
 use native.Mathlib.Nat.{le-of-eq}
 use native.Mathlib.Omega.{arith}
-use lib.ListN.{length, drop, drop-of-length-le}
-use Rattle.matching.specs.Pairing.{none, Sheet, Admissible, Paired, ValidPairing, misses, Best, at}
+use lib.ListN.{length, getD, drop, drop-of-length-le}
+use Rattle.records.specs.Bytes.{reportOf}
+use Rattle.scoring.specs.declared.Scored.{Scored}
+use Rattle.scoring.specs.declared.Scored.the-variants.{NotAdmissible, Score}
+use Rattle.scoring.specs.Score.{scoreOf}
+use Rattle.scoring.proofs.ScoreLaws.{score-below}
+use Rattle.matching.specs.Pairing.{none, scoreEnd, Admissible, Paired, ValidPairing, misses, Best, at}
 use Rattle.matching.specs.Answer.{Fits, checkAnswer}
 use Rattle.matching.proofs.Theorems.{zero-certificate, best-is-zero, fewest-misses, all-are-served, no-report-unused}
 use Rattle.engine.specs.Call.{Served}
 use Rattle.intake.specs.Refusals.{Input}
-use Rattle.scoresheet.specs.Cells.{tracksOf, reportsOf, cellsOf, sectorSheet}
+use Rattle.scoresheet.specs.Cells.{cellOf, tracksOf, reportsOf, cellsOf, sectorSheet}
+use Rattle.scoresheet.proofs.SheetLaws.{cell-is}
 use Rattle.sector.specs.Serve.{Chosen, Choice}
+use Rattle.promises.specs.Words.{dueTrack}
 use Rattle.promises.proofs.Calls.{best-of-the-sector}
+
+-- ---- admissible
+
+admissible-score : (i : Input) (n j : ℕ) (s : Scored) → scoreOf (dueTrack i n) (reportOf (getD (i .batch) j [])) (i .site) ≡ s → (s ≡ NotAdmissible → ⊥) → cellOf s ≡ none → ⊥
+unfolding cellOf
+admissible-score i n j NotAdmissible e a z = a refl
+admissible-score i n j (Score x) e a z =
+    let b : x < scoreEnd = score-below (dueTrack i n) (reportOf (getD (i .batch) j [])) (i .site) x e in
+    omega arith
+
+-- A pair is admissible in the sector's sheet exactly when the rules of a pair's zones admit it.
+pub admissible-exactly-when : (i : Input) (n j : ℕ) → n < tracksOf i → j < reportsOf i → (Admissible (sectorSheet i) n j → scoreOf (dueTrack i n) (reportOf (getD (i .batch) j [])) (i .site) ≡ NotAdmissible → ⊥) × ((scoreOf (dueTrack i n) (reportOf (getD (i .batch) j [])) (i .site) ≡ NotAdmissible → ⊥) → Admissible (sectorSheet i) n j)
+unfolding cellOf
+admissible-exactly-when i n j a b = (
+  (λ w e. w (cell-is i n j a b ∙ ap cellOf e)),
+  (λ w z. admissible-score i n j (scoreOf (dueTrack i n) (reportOf (getD (i .batch) j [])) (i .site)) refl w (sym (cell-is i n j a b) ∙ z)),
+)
+
+-- ---- a choice
 
 module _ (i : Input) (c : Chosen) (h : Choice i c) where
   fits : Fits (tracksOf i) (reportsOf i) (cellsOf i) (c .pairing) (c .prices) (c .discounts)
