@@ -2,7 +2,7 @@
 use Prim.Native.Nat.{ℕ, _+_, _<_}
 use mathlib.Core.Path.{_≡_, refl, sym, ap, _∙_}
 use mathlib.Core.Logic.{⊎-elim}
-use mathlib.Core.Bool.{true, false, cond}
+use mathlib.Core.Bool.{false, cond}
 use mathlib.Core.List.{List, [], _∷_, _++_}
 use native.Mathlib.Omega.{arith}
 use lib.ListN.{length, getD, take, drop, List·getD-append}
@@ -22,7 +22,7 @@ use Rattle.fates.specs.Fates.{slotsOf, shownOf}
 use Rattle.fates.proofs.Answers.{length-fates, length-slots, length-shown}
 use Rattle.sector.specs.declared.Counts.{Counts}
 use Rattle.sector.specs.Serve.{Lent, Chosen, Choice, reportsIn, fatesIn, afterOf, ServedWith}
-use Rattle.promises.specs.Words.{fateAt, slotAt, shownAt, slotOfDue, ToldPaired, TrackServed, SeenServed, AnswersTold}
+use Rattle.promises.specs.Words.{slotOfDue, TrackServed, SeenServed, AnswersTold}
 use Rattle.promises.proofs.Pairings.{valid-pairing, every-due-track-is-paired}
 use Rattle.promises.proofs.Tallies.{count, count-none, count-cons}
 use Rattle.promises.proofs.Reports.{rank-is, pairing-is-read-off, shown-exactly-when}

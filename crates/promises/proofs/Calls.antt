@@ -1,25 +1,23 @@
 -- A call as a whole: when it is refused, and that all but the choice of a best pairing and its prices is settled. Assumes nothing.
 use Prim.Native.Nat.{ℕ}
-use mathlib.Core.Path.{_≡_, sym, _∙_}
+use mathlib.Core.Path.{_≡_, refl, sym, _∙_}
+use mathlib.Core.List.{List}
 use mathlib.Core.Logic.{⊎-elim}
 use native.Mathlib.Omega.{arith}
 use Rattle.laws.proofs.Stores.{same-or}
-use Rattle.matching.specs.Pairing.{Best, at}
-use Rattle.matching.proofs.Theorems.{Agree, zero-is-best, best-agree}
+use Rattle.matching.specs.Pairing.{Best, scoreSum, at}
+use Rattle.matching.proofs.Theorems.{zero-is-best, best-agree}
 use Rattle.intake.specs.Refusals.{Input}
 use Rattle.scoresheet.specs.Cells.{tracksOf, reportsOf, cellsOf, sectorSheet}
+use Rattle.sector.specs.declared.Counts.{Counts}
 use Rattle.sector.specs.declared.Served.{Served}
 use Rattle.sector.specs.declared.Served.the-variants.{Refused, Done}
-use Rattle.sector.specs.Serve.{Lent, sectorRefusal, Chosen, Choice, tally, countsOf, afterOf, ServedAs, ServesSector}
+use Rattle.sector.specs.Serve.{Lent, sectorRefusal, Chosen, Choice, tally, countsOf, ServedWith, ServedAs, ServesSector}
+use Rattle.promises.specs.Words.{RefusedExactlyWhen, SameScore}
 
 -- ---- refusals
 
 -- A call is refused by a number exactly when that number is the first that applies; then all that was lent keeps its bytes.
-pub record RefusedExactlyWhen (i : Input) (l l′ : Lent) (answer : Served) (k : ℕ) : Type 0 where
-  pub only : answer ≡ Refused k → (sectorRefusal i l ≡ k) × (k ≡ 0 → ⊥)
-  pub when : sectorRefusal i l ≡ k → (k ≡ 0 → ⊥) → answer ≡ Refused k
-  pub kept : answer ≡ Refused k → l′ ≡ l
-
 pub refused-exactly-when : (i : Input) (l l′ : Lent) (answer : Served) → ServesSector i l l′ answer → (k : ℕ) → RefusedExactlyWhen i l l′ answer k
 refused-exactly-when i l l′ answer R k =
     ⊎-elim
@@ -42,6 +40,10 @@ refused-exactly-when i l l′ answer R k =
 
     same : {m : ℕ} → answer ≡ Refused m → answer ≡ Refused k → m ≡ k
     same a e = cc
+
+-- In every other case it is served, and answers by its counts.
+pub done-otherwise : (i : Input) (l l′ : Lent) (answer : Served) → ServesSector i l l′ answer → sectorRefusal i l ≡ 0 → (counts : Counts) × (answer ≡ Done counts)
+done-otherwise i l l′ answer R e = (R .served e .counts, R .served e .done)
 
 -- ---- what is settled
 
@@ -68,20 +70,17 @@ pub best-of-the-sector : (i : Input) (c : Chosen) → Choice i c → Best (secto
 unfolding sectorSheet
 best-of-the-sector i c h = zero-is-best (tracksOf i) (reportsOf i) (cellsOf i) (c .pairing) (c .prices) (c .discounts) (h .accepted)
 
--- Whichever best pairing was chosen: two results of one call have as many pairs and the same sum of pair scores, also as counted.
-pub record SameScore (i : Input) (c d : Chosen) (sum₁ sum₂ : ℕ) : Type 0 where
-  pub agree : Agree (sectorSheet i) (at (c .pairing)) (at (d .pairing))
-  pub sums : sum₁ ≡ sum₂
-
-counted-sum : (i : Input) (c d : Chosen) → Choice i c → Choice i d → countsOf i (c .pairing) .«score_sum» ≡ countsOf i (d .pairing) .«score_sum»
+-- the sum of scores is counted as it is
+pub score-counted : (i : Input) (P : List ℕ) → countsOf i P .«score_sum» ≡ scoreSum (sectorSheet i) (at P)
 unfolding countsOf tally
-counted-sum i c d h k = best-agree (sectorSheet i) (at (c .pairing)) (at (d .pairing)) (best-of-the-sector i c h) (best-of-the-sector i d k) .same-scores
+score-counted i P = refl
 
-pub pairs-and-sum-agree : (i : Input) (l l₁ l₂ : Lent) (a₁ a₂ : Served) (R : ServesSector i l l₁ a₁) (Q : ServesSector i l l₂ a₂) (e : sectorRefusal i l ≡ 0) → SameScore i (R .served e .rest .chosen) (Q .served e .rest .chosen) (R .served e .counts .«score_sum») (Q .served e .counts .«score_sum»)
-pairs-and-sum-agree i l l₁ l₂ a₁ a₂ R Q e =
-    let r = R .served e .rest in
-    let q = Q .served e .rest in
+-- Whichever best pairing was chosen: two results of one call have as many pairs and the same sum of pair scores, also as counted.
+pub pairs-and-sum-agree : (i : Input) (l l₁ l₂ : Lent) (n m : Counts) (s : ServedWith i l l₁ n) (t : ServedWith i l l₂ m) → SameScore i (s .chosen) (t .chosen) n m
+pairs-and-sum-agree i l l₁ l₂ n m s t =
+    let w = best-agree (sectorSheet i) (at (s .chosen .pairing)) (at (t .chosen .pairing)) (best-of-the-sector i (s .chosen) (s .choice)) (best-of-the-sector i (t .chosen) (t .choice)) in
     record {
-      agree = best-agree (sectorSheet i) (at (r .chosen .pairing)) (at (q .chosen .pairing)) (best-of-the-sector i (r .chosen) (r .choice)) (best-of-the-sector i (q .chosen) (q .choice));
-      sums = rw (r .counted, q .counted) (counted-sum i (r .chosen) (q .chosen) (r .choice) (q .choice));
+      same-pairs = w .same-pairs;
+      same-scores = w .same-scores;
+      same-counted = rw (s .counted, t .counted) (score-counted i (s .chosen .pairing) ∙ w .same-scores ∙ sym (score-counted i (t .chosen .pairing)));
     }

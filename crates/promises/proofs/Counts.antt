@@ -6,7 +6,7 @@ use mathlib.Core.List.{List}
 use mathlib.Core.Logic.{⊎-elim}
 use native.Mathlib.Nat.{le-antisymm}
 use native.Mathlib.Omega.{arith}
-use borrow.Author.Tests.{eqb-true, eqb-false, eq-eqb, ne-eqb, lt-ltb}
+use borrow.Author.Tests.{eqb-true, eq-eqb, ne-eqb, lt-ltb}
 use lib.Dec.{eqb, ltb}
 use lib.ListN.{length}
 use Rattle.laws.specs.Sums.{Sum}
@@ -15,7 +15,7 @@ use Rattle.laws.proofs.Sums.{sum-le, sum-injective}
 use Rattle.matching.specs.Pairing.{none, Paired, pairs, at}
 use Rattle.intake.specs.Refusals.{Input}
 use Rattle.scoresheet.specs.Cells.{tracksOf, reportsOf, sectorSheet}
-use Rattle.walk.specs.Table.{settledTable, coastedCount, droppedCount}
+use Rattle.walk.specs.Table.{settledTable}
 use Rattle.walk.proofs.Settled.{all-counted}
 use Rattle.fates.specs.Fates.{paired, ownerOf, countOf}
 use Rattle.fates.proofs.Answers.{length-fates, one-fate}

@@ -1,14 +1,13 @@
 -- Held slots after a call: those before it, with those started and without those dropped. Assumes nothing.
 use Prim.Native.Nat.{ℕ, _+_, _<_}
-use mathlib.Core.Path.{_≡_, refl, sym, ap, _∙_}
-use mathlib.Core.Bool.{Bool, true, false, cond, _&&_}
+use mathlib.Core.Path.{_≡_, refl, sym, _∙_}
+use mathlib.Core.Bool.{Bool, true, false, cond}
 use mathlib.Core.List.{List, []}
 use native.Mathlib.Omega.{arith}
-use borrow.Author.Tests.{eqb-true, eq-eqb, ne-eqb, ltb-true, leb-false}
+use borrow.Author.Tests.{eqb-true, eq-eqb, ne-eqb, leb-false}
 use lib.Dec.{eqb, leb, ltb}
 use lib.ListN.{length, getD, set}
 use Rattle.laws.specs.Lists.{firstIndex}
-use Rattle.laws.specs.Sums.{Sum}
 use Rattle.laws.proofs.Search.{first-found}
 use Rattle.laws.proofs.Sums.{sum-add, sum-same}
 use Rattle.laws.proofs.Tests.{and-left}
@@ -16,12 +15,11 @@ use Rattle.records.specs.declared.Track.{Track}
 use Rattle.records.specs.declared.Report.{Report}
 use Rattle.records.specs.Fields.{free, held, isWeak, allowance}
 use Rattle.records.specs.Bytes.{markAt, waitAt, trackOf, bytesOf, reportOf, slotDue}
-use Rattle.settling.specs.declared.Unpaired.{Unpaired}
 use Rattle.settling.specs.declared.Unpaired.the-variants.{Kept, Dropped}
 use Rattle.settling.specs.Settle.{updatedOf, missedOf, coastedOf, startedOf, agedOf}
-use Rattle.matching.specs.Pairing.{none, scoreSum, at}
+use Rattle.matching.specs.Pairing.{none, at}
 use Rattle.intake.specs.Refusals.{Input, dueSlots}
-use Rattle.scoresheet.specs.Cells.{tracksOf, sectorSheet}
+use Rattle.scoresheet.specs.Cells.{tracksOf}
 use Rattle.walk.specs.Table.{freed, pairedSlot, unpairedBytes, missedSlot, agedSlot, settledSlot, settledTable, droppedOne, missedAt, missedSum, droppedCount}
 use Rattle.walk.proofs.Settled.{settled-length, rankOf, due-at-rank, settled-at}
 use Rattle.fates.specs.declared.Told.{Told}
@@ -29,7 +27,8 @@ use Rattle.fates.specs.Fates.{started, weak, full, noSlot, Handed, isFree, free
 use Rattle.fates.proofs.Telling.{fateOut}
 use Rattle.sector.specs.declared.Counts.{Counts}
 use Rattle.sector.specs.Serve.{Lent, Chosen, Choice, reportsIn, fatesIn, tally, countsOf, afterOf, ServedWith}
-use Rattle.promises.specs.Words.{isHeld, heldCount, Accounted}
+use Rattle.promises.specs.Words.{isHeld, heldCount, SameScore, Accounted, CountedAlike}
+use Rattle.promises.proofs.Calls.{score-counted, pairs-and-sum-agree}
 use Rattle.promises.proofs.Counts.{reports-all-counted, paired-count-is-pairs, due-tracks-all-counted}
 use Rattle.promises.proofs.Tallies.{count-places, sum-by-rank, count-set, raised-by-answers}
 
@@ -159,10 +158,6 @@ unfolding afterOf countsOf tally fatesIn
 held-slots-balance i l c =
     omega (arith, started-held (reportsIn i) (c .pairing) (settledTable i (c .pairing)), settled-held i (c .pairing))
 
-score-counted : (i : Input) (P : List ℕ) → countsOf i P .«score_sum» ≡ scoreSum (sectorSheet i) (at P)
-unfolding countsOf tally
-score-counted i P = refl
-
 counted-all : (i : Input) (l : Lent) (c : Chosen) → Choice i c → Accounted i c (afterOf i l c) (countsOf i (c .pairing))
 counted-all i l c h = record {
   reports = reports-all-counted i (c .pairing);
@@ -175,3 +170,18 @@ counted-all i l c h = record {
 -- Counts: each report has one fate, each due track is paired, coasts or is dropped, and the slots that hold a track balance.
 pub counts : (i : Input) (l l′ : Lent) (n : Counts) (s : ServedWith i l l′ n) → Accounted i (s .chosen) l′ n
 counts i l l′ n s = rw (s .counted, s .left) (counted-all i l (s .chosen) (s .choice))
+
+-- Whichever best pairing was chosen: two results of one call have the same count of paired, of due tracks without a pair and of reports without a
+-- pair, and the same sum of scores.
+pub ties-count-alike : (i : Input) (l l₁ l₂ : Lent) (n m : Counts) → ServedWith i l l₁ n → ServedWith i l l₂ m → CountedAlike n m
+ties-count-alike i l l₁ l₂ n m s t =
+    let a : Accounted i (s .chosen) l₁ n = counts i l l₁ n s in
+    let b : Accounted i (t .chosen) l₂ m = counts i l l₂ m t in
+    let w : SameScore i (s .chosen) (t .chosen) n m = pairs-and-sum-agree i l l₁ l₂ n m s t in
+    let e : n .paired ≡ m .paired = a .as-paired ∙ w .same-pairs ∙ sym (b .as-paired) in
+    record {
+      paired = e;
+      missed = omega (arith, a .due-tracks, b .due-tracks);
+      unpaired = omega (arith, a .reports, b .reports);
+      scored = w .same-counted;
+    }

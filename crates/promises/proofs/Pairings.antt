@@ -88,3 +88,8 @@ module _ (i : Input) (c : Chosen) (h : Choice i c) where
   pub check-accepts-every-best : (q : List ℕ) → tracksOf i ≤ length q → Best (sectorSheet i) (at q) → checkAnswer (tracksOf i) (reportsOf i) (cellsOf i) q (c .prices) (c .discounts) ≡ 0
   unfolding sectorSheet
   check-accepts-every-best q l b = best-is-zero (tracksOf i) (reportsOf i) (cellsOf i) (c .pairing) q (c .prices) (c .discounts) (h .accepted) l b
+
+-- And what the pairing call gives for the sector's own sheet, in lists of a sector's sizes, is a choice that the sector call may make: the sector
+-- call gives what the score sheet call and the pairing call give together, no more and no less.
+pub two-calls-give-a-choice : (i : Input) (p u v : List ℕ) (c : Chosen) → length (c .pairing) ≡ tracksOf i → length (c .prices) ≡ tracksOf i → length (c .discounts) ≡ reportsOf i → Served (tracksOf i) (reportsOf i) (cellsOf i) p u v (c .pairing) (c .prices) (c .discounts) → Choice i c
+two-calls-give-a-choice i p u v c a b d s = record { number-each = a; price-each = b; discount-each = d; accepted = s .accepted }

@@ -6,27 +6,26 @@ use mathlib.Core.Bool.{Bool, true, false, cond}
 use mathlib.Core.List.{List, [], _∷_}
 use native.Mathlib.Nat.{le-of-suc-le-suc, not-suc-le-zero}
 use native.Mathlib.Omega.{arith}
-use borrow.Author.Tests.{ltb-true, ltb-false, lt-ltb, le-ltb, eqb-true, eq-eqb, ne-eqb, le-leb, lt-leb}
+use borrow.Author.Tests.{lt-ltb, le-ltb, eqb-true, eq-eqb, ne-eqb, le-leb, lt-leb}
 use lib.Dec.{eqb, leb, ltb}
 use lib.ListN.{length, getD}
 use Rattle.laws.specs.Lists.{firstIndex, indicesFrom}
-use Rattle.laws.proofs.Search.{first-upto, first-before, first-found}
+use Rattle.laws.proofs.Search.{first-before, first-found}
 use Rattle.laws.proofs.Stores.{le-or-lt}
 use Rattle.laws.proofs.Tests.{clash}
 use Rattle.records.specs.declared.Track.{Track}
 use Rattle.records.specs.declared.Report.{Report}
 use Rattle.records.specs.Fields.{isWeak}
-use Rattle.records.specs.Bytes.{markAt, trackOf, bytesOf, reportOf, slotDue}
+use Rattle.records.specs.Bytes.{trackOf, bytesOf, reportOf, slotDue}
 use Rattle.settling.specs.Settle.{updatedOf, updatesMost}
-use Rattle.settling.proofs.HandedOn.{updated-updates}
 use Rattle.matching.specs.Pairing.{none, Paired, at}
 use Rattle.intake.specs.Refusals.{Input, dueSlots}
-use Rattle.scoresheet.specs.Cells.{tracksOf, reportsOf, sectorSheet}
+use Rattle.scoresheet.specs.Cells.{tracksOf, reportsOf}
 use Rattle.scoresheet.proofs.Due.{named, due-lies, due-is-due}
-use Rattle.walk.specs.Table.{missedSlot, pairedSlot, agedSlot, settledSlot, settledTable}
+use Rattle.walk.specs.Table.{pairedSlot, settledSlot, settledTable}
 use Rattle.walk.proofs.Settled.{rankOf, due-at-rank, settled-at}
 use Rattle.fates.specs.declared.Told.{Told}
-use Rattle.fates.specs.Fates.{paired, started, weak, full, noSlot, shownFrom, Handed, isFree, freeSlot, ownerOf, shownMark, slotOf, toldPaired, toldUnpaired, toldOf, afterReport, reportNumbers, fatesOf, slotsOf, shownOf}
+use Rattle.fates.specs.Fates.{paired, started, weak, full, noSlot, shownFrom, Handed, isFree, freeSlot, ownerOf, shownMark, slotOf, toldPaired, toldUnpaired, toldOf, afterReport, reportNumbers, fatesOf, slotsOf}
 use Rattle.fates.proofs.Loops.{outs-at}
 use Rattle.fates.proofs.Telling.{fateOut, slotOut}
 use Rattle.fates.proofs.Starts.{tableAt}
@@ -163,7 +162,6 @@ module _ (i : Input) (c : Chosen) (h : Choice i c) (j : ℕ) (here : j < reports
 -- One to one, in the answer's words: two reports that are told paired with the same slot are the same report.
 pub one-slot-one-report : (i : Input) (c : Chosen) → Choice i c → (j k : ℕ) → j < reportsOf i → k < reportsOf i → fateAt i (c .pairing) j ≡ paired → fateAt i (c .pairing) k ≡ paired → slotAt i (c .pairing) j ≡ slotAt i (c .pairing) k → j ≡ k
 one-slot-one-report i c h j k a b f g e =
-    let P : List ℕ = c .pairing in
     let oj : ownerOf (c .pairing) j < length (c .pairing) = paired-only i (c .pairing) j a f in
     let ok : ownerOf (c .pairing) k < length (c .pairing) = paired-only i (c .pairing) k b g in
     let s : ownerOf (c .pairing) j ≡ ownerOf (c .pairing) k =

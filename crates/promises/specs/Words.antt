@@ -1,5 +1,5 @@
 -- What the answer of a served call says of one report and of one due track; P is the pairing. Assumes nothing.
-use Prim.Native.Nat.{ℕ, _+_, _≤_, _<_}
+use Prim.Native.Nat.{ℕ, _+_, _-_, _≤_, _<_}
 use mathlib.Core.Path.{_≡_}
 use mathlib.Core.Bool.{Bool}
 use mathlib.Core.List.{List, []}
@@ -13,9 +13,11 @@ use Rattle.matching.specs.Pairing.{pairs, scoreSum, at}
 use Rattle.intake.specs.Refusals.{Input, dueSlots}
 use Rattle.scoresheet.specs.Cells.{tracksOf, reportsOf, sectorSheet}
 use Rattle.walk.specs.Table.{settledTable}
-use Rattle.fates.specs.Fates.{paired, slotsOf, shownOf}
+use Rattle.fates.specs.Fates.{paired, shownFrom, slotsOf, shownOf}
 use Rattle.sector.specs.declared.Counts.{Counts}
-use Rattle.sector.specs.Serve.{Lent, Chosen, reportsIn, fatesIn}
+use Rattle.sector.specs.declared.Served.{Served}
+use Rattle.sector.specs.declared.Served.the-variants.{Refused}
+use Rattle.sector.specs.Serve.{Lent, sectorRefusal, Chosen, reportsIn, fatesIn}
 
 -- what report j is told: its fate, its slot, whether it is shown
 abbrev pub fateAt : Input → List ℕ → ℕ → ℕ
@@ -34,9 +36,9 @@ slotOfDue i n = getD (dueSlots (i .table)) n 0
 abbrev pub dueTrack : Input → ℕ → Track
 dueTrack i n = trackOf (getD (i .table) (slotOfDue i n) [])
 
--- the third update shows a track
+-- so many updates before the one that shows a track
 abbrev pub updatesBefore : ℕ
-updatesBefore = 2
+updatesBefore = shownFrom - 1
 
 -- report j is paired with the due track at some place, which had two updates or more when the call came
 pub record PairedWithOld (i : Input) (P : List ℕ) (j : ℕ) : Type 0 where
@@ -97,3 +99,24 @@ pub record Accounted (i : Input) (c : Chosen) (l′ : Lent) (counts : Counts) : 
   pub as-scored : counts .«score_sum» ≡ scoreSum (sectorSheet i) (at (c .pairing))
   -- held slots after = before + started - dropped, said with the dropped ones on the other side
   pub slots : heldCount (l′ .table) + counts .dropped ≡ heldCount (i .table) + counts .started
+
+-- ---- a call as a whole
+
+-- the answer is the refusal by number k exactly when k is the number that the call is to give back; then all that was lent keeps its bytes
+pub record RefusedExactlyWhen (i : Input) (l l′ : Lent) (answer : Served) (k : ℕ) : Type 0 where
+  pub only : answer ≡ Refused k → (sectorRefusal i l ≡ k) × (k ≡ 0 → ⊥)
+  pub when : sectorRefusal i l ≡ k → (k ≡ 0 → ⊥) → answer ≡ Refused k
+  pub kept : answer ≡ Refused k → l′ ≡ l
+
+-- two choices have as many pairs and the same sum of pair scores, also as counted
+pub record SameScore (i : Input) (c d : Chosen) (n m : Counts) : Type 0 where
+  pub same-pairs : pairs (sectorSheet i) (at (c .pairing)) ≡ pairs (sectorSheet i) (at (d .pairing))
+  pub same-scores : scoreSum (sectorSheet i) (at (c .pairing)) ≡ scoreSum (sectorSheet i) (at (d .pairing))
+  pub same-counted : n .«score_sum» ≡ m .«score_sum»
+
+-- two counts that tell only which tracks and which reports are left out
+pub record CountedAlike (n m : Counts) : Type 0 where
+  pub paired : n .paired ≡ m .paired
+  pub missed : n .coasted + n .dropped ≡ m .coasted + m .dropped
+  pub unpaired : n .started + n .weak + n .full ≡ m .started + m .weak + m .full
+  pub scored : n .«score_sum» ≡ m .«score_sum»
