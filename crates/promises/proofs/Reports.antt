@@ -18,6 +18,7 @@ use Rattle.records.specs.declared.Report.{Report}
 use Rattle.records.specs.Fields.{isWeak}
 use Rattle.records.specs.Bytes.{trackOf, bytesOf, reportOf, slotDue}
 use Rattle.settling.specs.Settle.{updatedOf, updatesMost}
+use Rattle.settling.proofs.HandedOn.{updated-updates}
 use Rattle.matching.specs.Pairing.{none, Paired, at}
 use Rattle.intake.specs.Refusals.{Input, dueSlots}
 use Rattle.scoresheet.specs.Cells.{tracksOf, reportsOf}
@@ -176,13 +177,18 @@ updated-held : (t : Track) (p : Report) (s : ℕ) → isFree (bytesOf (updatedOf
 unfolding isFree bytesOf updatedOf
 updated-held t p s = refl
 
+bytes-updates : (t : Track) → trackOf (bytesOf t) .updates ≡ t .updates
+unfolding trackOf bytesOf
+bytes-updates t = refl
+
 updated-shown : (t : Track) (p : Report) (s : ℕ) → shownMark (bytesOf (updatedOf t p s)) ≡ cond (leb updatesBefore (t .updates)) 1 0
-unfolding shownMark bytesOf trackOf updatedOf
+unfolding shownMark
 updated-shown t p s =
-    ⊎-elim
+    rw (bytes-updates (updatedOf t p s), updated-updates t p s)
+    (⊎-elim
     (λ l. rw (le-leb updatesBefore (t .updates) l, le-leb shownFrom (min (t .updates + 1) updatesMost) (omega arith)))
     (λ l. rw (lt-leb updatesBefore (t .updates) l, lt-leb shownFrom (min (t .updates + 1) updatesMost) (omega arith)))
-    (le-or-lt updatesBefore (t .updates))
+    (le-or-lt updatesBefore (t .updates)))
 
 module _ (i : Input) (c : Chosen) (h : Choice i c) (j : ℕ) (here : j < reportsOf i) where
   owner-slot : ownerOf (c .pairing) j < length (c .pairing) → getD (settledTable i (c .pairing)) (slotOf (reportsIn i) (c .pairing) j) [] ≡ bytesOf (updatedOf (dueTrack i (ownerOf (c .pairing) j)) (reportOf (getD (i .batch) (at (c .pairing) (ownerOf (c .pairing) j)) [])) (i .sector))

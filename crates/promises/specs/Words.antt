@@ -1,4 +1,4 @@
--- What the answer of a served call says of one report and of one due track; P is the pairing. Assumes nothing.
+-- What a call and its answer say: of one report, of one due track, of all of them; P is the pairing. Assumes nothing.
 use Prim.Native.Nat.{ℕ, _+_, _-_, _≤_, _<_}
 use mathlib.Core.Path.{_≡_}
 use mathlib.Core.Bool.{Bool}
@@ -114,7 +114,7 @@ pub record SameScore (i : Input) (c d : Chosen) (n m : Counts) : Type 0 where
   pub same-scores : scoreSum (sectorSheet i) (at (c .pairing)) ≡ scoreSum (sectorSheet i) (at (d .pairing))
   pub same-counted : n .«score_sum» ≡ m .«score_sum»
 
--- two counts that tell only which tracks and which reports are left out
+-- two counts that differ at most in what became of the tracks and of the reports that are left out
 pub record CountedAlike (n m : Counts) : Type 0 where
   pub paired : n .paired ≡ m .paired
   pub missed : n .coasted + n .dropped ≡ m .coasted + m .dropped
