@@ -1,0 +1,147 @@
+-- The answer of a served call, entry by entry, and what the controller sees: the glider that is no longer lost. Assumes nothing.
+use Prim.Native.Nat.{ℕ, _+_, _<_}
+use mathlib.Core.Path.{_≡_, refl, sym, ap, _∙_}
+use mathlib.Core.Logic.{⊎-elim}
+use mathlib.Core.Bool.{false, cond}
+use mathlib.Core.List.{List, [], _∷_, _++_}
+use native.Mathlib.Omega.{arith}
+use lib.ListN.{length, getD, take, drop, List·getD-append}
+use lib.Seq.{ext-getD}
+use Rattle.laws.specs.Lists.{afterAll}
+use Rattle.laws.proofs.Fold.{length-outs}
+use Rattle.laws.proofs.Stores.{same-or}
+use Rattle.records.specs.Bytes.{slotDue}
+use Rattle.matching.specs.Pairing.{none, Paired, ValidPairing, at}
+use Rattle.intake.specs.Refusals.{Input, dueSlots}
+use Rattle.scoresheet.specs.Cells.{tracksOf, reportsOf, sectorSheet}
+use Rattle.scoresheet.proofs.Due.{due-lies, due-is-due}
+use Rattle.walk.specs.Table.{dueRank, slotPrice, settledTable, slotPrices}
+use Rattle.walk.proofs.Loops.{outs-at}
+use Rattle.walk.proofs.Settled.{rankOf}
+use Rattle.fates.specs.Fates.{slotsOf, shownOf}
+use Rattle.fates.proofs.Answers.{length-fates, length-slots, length-shown}
+use Rattle.sector.specs.declared.Counts.{Counts}
+use Rattle.sector.specs.Serve.{Lent, Chosen, Choice, reportsIn, fatesIn, afterOf, ServedWith}
+use Rattle.promises.specs.Words.{slotOfDue, TrackServed, SeenServed, AnswersTold}
+use Rattle.promises.proofs.Pairings.{valid-pairing, every-due-track-is-paired}
+use Rattle.promises.proofs.Tallies.{count, count-none, count-cons}
+use Rattle.promises.proofs.Reports.{rank-is, pairing-is-read-off, shown-exactly-when}
+
+-- ---- entry by entry
+
+module _ (i : Input) (c : Chosen) (l : Lent) (h : Choice i c) (j : ℕ) (here : j < reportsOf i) where
+  front : (xs rest : List ℕ) → length xs ≡ length (i .batch) → getD (xs ++ rest) j 0 ≡ getD xs j 0
+  unfolding reportsOf
+  front xs rest e = List·getD-append xs rest 0 j (rw e here)
+
+  told-after : AnswersTold i c (afterOf i l c) j
+  unfolding afterOf fatesIn reportsOf
+  told-after =
+      record {
+        fate = front (fatesIn i (c .pairing)) (drop (reportsOf i) (l .fates)) (length-fates (reportsIn i) (c .pairing) (settledTable i (c .pairing)));
+        slot = front (slotsOf (reportsIn i) (c .pairing) (settledTable i (c .pairing))) (drop (reportsOf i) (l .slots)) (length-slots (reportsIn i) (c .pairing) (settledTable i (c .pairing)));
+        shown = front (shownOf (reportsIn i) (c .pairing) (settledTable i (c .pairing))) (drop (reportsOf i) (l .shown)) (length-shown (reportsIn i) (c .pairing) (settledTable i (c .pairing)));
+        discount = front (c .discounts) (drop (reportsOf i) (l .discounts)) (h .discount-each);
+      }
+
+-- The first entries of the answer's lists are what the reports are told, and the discounts.
+pub answers-are-told : (i : Input) (l l′ : Lent) (counts : Counts) (s : ServedWith i l l′ counts) (j : ℕ) → j < reportsOf i → AnswersTold i (s .chosen) l′ j
+answers-are-told i l l′ counts s j here = rw (s .left) (told-after i (s .chosen) l (s .choice) j here)
+
+-- ---- the glider
+
+module _ (i : Input) (c : Chosen) (h : Choice i c) where
+  -- A due track that is paired: its report is told paired, in the track's slot, and is shown where the track had two updates or more.
+  pub paired-track-is-served : (n : ℕ) → n < tracksOf i → Paired (at (c .pairing)) n → TrackServed i (c .pairing) n
+  unfolding sectorSheet
+  paired-track-is-served n l p =
+      let here : at (c .pairing) n < reportsOf i = valid-pairing i c h .there n l p in
+      record {
+        report = at (c .pairing) n;
+        here = here;
+        has = refl;
+        told = pairing-is-read-off i c h (at (c .pairing) n) here n l .0 refl;
+        shown = λ u. shown-exactly-when i c h (at (c .pairing) n) here .when (record { place = n; due = l; has = refl; old = u });
+      }
+
+-- The glider: where some one-to-one pairing of admissible pairs serves every due track, the answer shows every due track served, and each that
+-- had two updates or more shown.
+pub glider : (i : Input) (l l′ : Lent) (counts : Counts) → ServedWith i l l′ counts → (Q : ℕ → ℕ) → ValidPairing (sectorSheet i) Q → ((n : ℕ) → n < tracksOf i → Paired Q n) → (n : ℕ) → n < tracksOf i → SeenServed i l′ n
+glider i l l′ counts s Q q all n b =
+    let w : TrackServed i (s .chosen .pairing) n = paired-track-is-served i (s .chosen) (s .choice) n b (every-due-track-is-paired i (s .chosen) (s .choice) Q q all n b) in
+    let a : AnswersTold i (s .chosen) l′ (w .report) = answers-are-told i l l′ counts s (w .report) (w .here) in
+    record {
+      report = w .report;
+      here = w .here;
+      fate = a .fate ∙ w .told .fate;
+      slot = a .slot ∙ w .told .slot;
+      shown = λ u. a .shown ∙ w .shown u;
+    }
+
+-- ---- prices
+
+-- the rank that the prices are counted by
+ranks : (slots : List (List ℕ)) (s : ℕ) → afterAll dueRank slots s ≡ s + count slotDue slots
+unfolding afterAll dueRank
+ranks [] s = omega (arith, count-none slotDue)
+ranks (x ∷ slots) s = omega (arith, ranks slots (s + cond (slotDue x) 1 0), count-cons slotDue x slots)
+
+price-at : (i : Input) (u : List ℕ) (k : ℕ) → k < length (i .table) → getD (slotPrices i u) k 0 ≡ slotPrice u (getD (i .table) k []) (rankOf (i .table) k)
+unfolding slotPrices dueSlots
+price-at i u k l =
+    outs-at dueRank (slotPrice u) (i .table) 0 k [] 0 l
+    ∙ ap (slotPrice u (getD (i .table) k [])) (ranks (take k (i .table)) 0 ∙ omega arith)
+
+price-in-answer : (i : Input) (l : Lent) (c : Chosen) (k : ℕ) → k < length (i .table) → getD (afterOf i l c .prices) k 0 ≡ slotPrice (c .prices) (getD (i .table) k []) (rankOf (i .table) k)
+unfolding afterOf slotPrices
+price-in-answer i l c k h =
+    List·getD-append (slotPrices i (c .prices)) (drop (length (i .table)) (l .prices)) 0 k (rw (length-outs dueRank (slotPrice (c .prices)) (i .table) 0) h)
+    ∙ price-at i (c .prices) k h
+
+-- The price of the n-th due track stands at its slot, and 0 at a slot that is not due.
+pub due-price-is-read-off : (i : Input) (l l′ : Lent) (counts : Counts) (s : ServedWith i l l′ counts) (n : ℕ) → n < tracksOf i → getD (l′ .prices) (slotOfDue i n) 0 ≡ at (s .chosen .prices) n
+unfolding slotPrice tracksOf
+due-price-is-read-off i l l′ counts s n h =
+    rw (s .left) (price-in-answer i l (s .chosen) (slotOfDue i n) (due-lies i n h) ∙ rw (due-is-due i n h, rank-is i n h))
+
+pub other-price-is-zero : (i : Input) (l l′ : Lent) (counts : Counts) (s : ServedWith i l l′ counts) (k : ℕ) → k < length (i .table) → slotDue (getD (i .table) k []) ≡ false → getD (l′ .prices) k 0 ≡ 0
+unfolding slotPrice
+other-price-is-zero i l l′ counts s k h d =
+    rw (s .left) (price-in-answer i l (s .chosen) k h ∙ rw d)
+
+-- ---- the choice
+
+module _ (i : Input) (l l′ : Lent) (n m : Counts) (s : ServedWith i l l′ n) (t : ServedWith i l l′ m) where
+  -- a due track that one of two pairings with the same answer serves has the same report in the other
+  same-report : (k : ℕ) → k < tracksOf i → Paired (at (t .chosen .pairing)) k → at (s .chosen .pairing) k ≡ at (t .chosen .pairing) k
+  same-report k b p =
+      let w : TrackServed i (t .chosen .pairing) k = paired-track-is-served i (t .chosen) (t .choice) k b p in
+      let a : AnswersTold i (s .chosen) l′ (w .report) = answers-are-told i l l′ n s (w .report) (w .here) in
+      let d : AnswersTold i (t .chosen) l′ (w .report) = answers-are-told i l l′ m t (w .report) (w .here) in
+      pairing-is-read-off i (s .chosen) (s .choice) (w .report) (w .here) k b .1
+      (record { fate = sym (a .fate) ∙ d .fate ∙ w .told .fate; slot = sym (a .slot) ∙ d .slot ∙ w .told .slot })
+      ∙ sym (w .has)
+
+-- The whole choice can be read off the answer: two choices that leave the same bytes are the same pairing, prices and discounts.
+pub choice-is-read-off : (i : Input) (l l′ : Lent) (n m : Counts) (s : ServedWith i l l′ n) (t : ServedWith i l l′ m) → s .chosen ≡ t .chosen
+choice-is-read-off i l l′ n m s t =
+    same-chosen (s .chosen) (t .chosen)
+    (ext-getD 0 (s .chosen .pairing) (t .chosen .pairing) (s .choice .number-each ∙ sym (t .choice .number-each)) (λ k b. pairing k (rw (s .choice .number-each) at b)))
+    (ext-getD 0 (s .chosen .prices) (t .chosen .prices) (s .choice .price-each ∙ sym (t .choice .price-each)) (λ k b. price k (rw (s .choice .price-each) at b)))
+    (ext-getD 0 (s .chosen .discounts) (t .chosen .discounts) (s .choice .discount-each ∙ sym (t .choice .discount-each)) (λ k b. discount k (rw (s .choice .discount-each) at b)))
+  where
+    same-chosen : (c d : Chosen) → c .pairing ≡ d .pairing → c .prices ≡ d .prices → c .discounts ≡ d .discounts → c ≡ d
+    same-chosen c d e f g = λ k. record { pairing = e k; prices = f k; discounts = g k }
+
+    pairing : (k : ℕ) → k < tracksOf i → at (s .chosen .pairing) k ≡ at (t .chosen .pairing) k
+    pairing k b =
+        ⊎-elim
+        (λ z. ⊎-elim (λ y. z ∙ sym y) (same-report i l l′ n m s t k b) (same-or (at (t .chosen .pairing) k) none))
+        (λ p. sym (same-report i l l′ m n t s k b p))
+        (same-or (at (s .chosen .pairing) k) none)
+
+    price : (k : ℕ) → k < tracksOf i → at (s .chosen .prices) k ≡ at (t .chosen .prices) k
+    price k b = sym (due-price-is-read-off i l l′ n s k b) ∙ due-price-is-read-off i l l′ m t k b
+
+    discount : (k : ℕ) → k < reportsOf i → at (s .chosen .discounts) k ≡ at (t .chosen .discounts) k
+    discount k b = sym (answers-are-told i l l′ n s k b .discount) ∙ answers-are-told i l l′ m t k b .discount

@@ -1,0 +1,8 @@
+-- What one call of a sector promises: refusals, pairings, what reports are told, the answer entry by entry, counts.
+pub mod Calls
+pub mod Pairings
+pub mod Tallies
+pub mod Reports
+pub mod Answers
+pub mod Counts
+pub mod Held

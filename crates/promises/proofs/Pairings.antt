@@ -1,0 +1,95 @@
+-- The pairing of a served call: best for its sector, one to one, what the pairing call and the check say of it. Assumes nothing.
+use Prim.Native.Nat.{ℕ, _≤_, _<_}
+use mathlib.Core.Path.{_≡_, refl, sym, ap, _∙_}
+use mathlib.Core.List.{List, []}
+use native.Mathlib.Nat.{le-of-eq}
+use native.Mathlib.Omega.{arith}
+use lib.ListN.{length, getD, drop, drop-of-length-le}
+use Rattle.records.specs.Bytes.{reportOf}
+use Rattle.scoring.specs.declared.Scored.{Scored}
+use Rattle.scoring.specs.declared.Scored.the-variants.{NotAdmissible, Score}
+use Rattle.scoring.specs.Score.{scoreOf}
+use Rattle.scoring.proofs.ScoreLaws.{score-below}
+use Rattle.matching.specs.Pairing.{none, scoreEnd, Admissible, Paired, ValidPairing, misses, Best, at}
+use Rattle.matching.specs.Answer.{Fits, checkAnswer}
+use Rattle.matching.proofs.Theorems.{zero-certificate, best-is-zero, fewest-misses, all-are-served, no-report-unused}
+use Rattle.engine.specs.Call.{Served}
+use Rattle.intake.specs.Refusals.{Input}
+use Rattle.scoresheet.specs.Cells.{cellOf, tracksOf, reportsOf, cellsOf, sectorSheet}
+use Rattle.scoresheet.proofs.SheetLaws.{cell-is}
+use Rattle.sector.specs.Serve.{Chosen, Choice}
+use Rattle.promises.specs.Words.{dueTrack}
+use Rattle.promises.proofs.Calls.{best-of-the-sector}
+
+-- ---- admissible
+
+admissible-score : (i : Input) (n j : ℕ) (s : Scored) → scoreOf (dueTrack i n) (reportOf (getD (i .batch) j [])) (i .site) ≡ s → (s ≡ NotAdmissible → ⊥) → cellOf s ≡ none → ⊥
+unfolding cellOf
+admissible-score i n j NotAdmissible e a z = a refl
+admissible-score i n j (Score x) e a z =
+    let b : x < scoreEnd = score-below (dueTrack i n) (reportOf (getD (i .batch) j [])) (i .site) x e in
+    omega arith
+
+-- A pair is admissible in the sector's sheet exactly when the rules of a pair's zones admit it.
+pub admissible-exactly-when : (i : Input) (n j : ℕ) → n < tracksOf i → j < reportsOf i → (Admissible (sectorSheet i) n j → scoreOf (dueTrack i n) (reportOf (getD (i .batch) j [])) (i .site) ≡ NotAdmissible → ⊥) × ((scoreOf (dueTrack i n) (reportOf (getD (i .batch) j [])) (i .site) ≡ NotAdmissible → ⊥) → Admissible (sectorSheet i) n j)
+unfolding cellOf
+admissible-exactly-when i n j a b = (
+  (λ w e. w (cell-is i n j a b ∙ ap cellOf e)),
+  (λ w z. admissible-score i n j (scoreOf (dueTrack i n) (reportOf (getD (i .batch) j [])) (i .site)) refl w (sym (cell-is i n j a b) ∙ z)),
+)
+
+-- ---- a choice
+
+module _ (i : Input) (c : Chosen) (h : Choice i c) where
+  fits : Fits (tracksOf i) (reportsOf i) (cellsOf i) (c .pairing) (c .prices) (c .discounts)
+  fits = zero-certificate (tracksOf i) (reportsOf i) (cellsOf i) (c .pairing) (c .prices) (c .discounts) (h .accepted) .0
+
+  -- no report has the number that stands for none
+  pub few-reports : reportsOf i ≤ none
+  few-reports = omega (arith, fits .reports-few)
+
+  pub valid-pairing : ValidPairing (sectorSheet i) (at (c .pairing))
+  valid-pairing = best-of-the-sector i c h .valid
+
+  -- No one-to-one pairing of admissible pairs leaves fewer due tracks out.
+  pub fewest-misses-of-the-sector : (Q : ℕ → ℕ) → ValidPairing (sectorSheet i) Q → misses (sectorSheet i) (at (c .pairing)) ≤ misses (sectorSheet i) Q
+  fewest-misses-of-the-sector Q q = fewest-misses (sectorSheet i) (at (c .pairing)) Q (best-of-the-sector i c h) q
+
+  -- A due track is left out only where every report that is admissible for it is some due track's.
+  pub no-free-report-for-a-missed-track : (n j : ℕ) → n < tracksOf i → at (c .pairing) n ≡ none → j < reportsOf i → Admissible (sectorSheet i) n j → (k : ℕ) × ((k < tracksOf i) × (at (c .pairing) k ≡ j))
+  unfolding sectorSheet
+  no-free-report-for-a-missed-track n j l m r a = no-report-unused (sectorSheet i) (at (c .pairing)) (best-of-the-sector i c h) few-reports n j l m r a
+
+  -- Where some one-to-one pairing of admissible pairs serves every due track, every due track is paired.
+  pub every-due-track-is-paired : (Q : ℕ → ℕ) → ValidPairing (sectorSheet i) Q → ((n : ℕ) → n < tracksOf i → Paired Q n) → (n : ℕ) → n < tracksOf i → Paired (at (c .pairing)) n
+  unfolding sectorSheet
+  every-due-track-is-paired Q q all = all-are-served (sectorSheet i) (at (c .pairing)) Q (best-of-the-sector i c h) q all
+
+  -- One to one: two due tracks with the same report are the same track.
+  pub one-to-one : (n k : ℕ) → n < tracksOf i → k < tracksOf i → Paired (at (c .pairing)) n → at (c .pairing) n ≡ at (c .pairing) k → n ≡ k
+  unfolding sectorSheet
+  one-to-one n k a b p e = valid-pairing .once n k a b p e
+
+  -- ---- the three calls
+
+  -- With lists of a sector's sizes lent, what the sector call chose is what the pairing call promises of the sector's own sheet.
+  pub three-calls-agree : (p u v : List ℕ) → length p ≡ tracksOf i → length u ≡ tracksOf i → length v ≡ reportsOf i → Served (tracksOf i) (reportsOf i) (cellsOf i) p u v (c .pairing) (c .prices) (c .discounts)
+  three-calls-agree p u v a b d = record {
+    accepted = h .accepted;
+    pairing-beyond = both-end (tracksOf i) (c .pairing) p (h .number-each) a;
+    prices-beyond = both-end (tracksOf i) (c .prices) u (h .price-each) b;
+    discounts-beyond = both-end (reportsOf i) (c .discounts) v (h .discount-each) d;
+  }
+    where
+      both-end : (n : ℕ) (x y : List ℕ) → length x ≡ n → length y ≡ n → drop n x ≡ drop n y
+      both-end n x y e f = drop-of-length-le x (le-of-eq e) ∙ sym (drop-of-length-le y (le-of-eq f))
+
+  -- With the sector call's prices and discounts the check accepts every best pairing of the sheet.
+  pub check-accepts-every-best : (q : List ℕ) → tracksOf i ≤ length q → Best (sectorSheet i) (at q) → checkAnswer (tracksOf i) (reportsOf i) (cellsOf i) q (c .prices) (c .discounts) ≡ 0
+  unfolding sectorSheet
+  check-accepts-every-best q l b = best-is-zero (tracksOf i) (reportsOf i) (cellsOf i) (c .pairing) q (c .prices) (c .discounts) (h .accepted) l b
+
+-- And what the pairing call gives for the sector's own sheet, in lists of a sector's sizes, is a choice that the sector call may make: the sector
+-- call gives what the score sheet call and the pairing call give together, no more and no less.
+pub two-calls-give-a-choice : (i : Input) (p u v : List ℕ) (c : Chosen) → length (c .pairing) ≡ tracksOf i → length (c .prices) ≡ tracksOf i → length (c .discounts) ≡ reportsOf i → Served (tracksOf i) (reportsOf i) (cellsOf i) p u v (c .pairing) (c .prices) (c .discounts) → Choice i c
+two-calls-give-a-choice i p u v c a b d s = record { number-each = a; price-each = b; discount-each = d; accepted = s .accepted }

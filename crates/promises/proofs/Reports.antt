@@ -1,0 +1,235 @@
+-- What a served call tells its reports: who is paired with whom, in which slot, and who is shown. Assumes nothing.
+use Prim.Native.Nat.{ℕ, zero, suc, _+_, _≤_, _<_, min}
+use mathlib.Core.Path.{_≡_, refl, sym, ap, _∙_}
+use mathlib.Core.Logic.{⊎-elim}
+use mathlib.Core.Bool.{Bool, true, false, cond}
+use mathlib.Core.List.{List, [], _∷_}
+use native.Mathlib.Nat.{le-of-suc-le-suc, not-suc-le-zero}
+use native.Mathlib.Omega.{arith}
+use borrow.Author.Tests.{lt-ltb, le-ltb, eqb-true, eq-eqb, ne-eqb, le-leb, lt-leb}
+use lib.Dec.{eqb, leb, ltb}
+use lib.ListN.{length, getD}
+use Rattle.laws.specs.Lists.{firstIndex, indicesFrom}
+use Rattle.laws.proofs.Search.{first-before, first-found}
+use Rattle.laws.proofs.Stores.{le-or-lt}
+use Rattle.laws.proofs.Tests.{clash}
+use Rattle.records.specs.declared.Track.{Track}
+use Rattle.records.specs.declared.Report.{Report}
+use Rattle.records.specs.Fields.{isWeak}
+use Rattle.records.specs.Bytes.{trackOf, bytesOf, reportOf, slotDue}
+use Rattle.settling.specs.Settle.{updatedOf, updatesMost}
+use Rattle.settling.proofs.HandedOn.{updated-updates}
+use Rattle.matching.specs.Pairing.{none, Paired, at}
+use Rattle.intake.specs.Refusals.{Input, dueSlots}
+use Rattle.scoresheet.specs.Cells.{tracksOf, reportsOf}
+use Rattle.scoresheet.proofs.Due.{named, due-lies, due-is-due}
+use Rattle.walk.specs.Table.{pairedSlot, settledSlot, settledTable}
+use Rattle.walk.proofs.Settled.{rankOf, due-at-rank, settled-at}
+use Rattle.fates.specs.declared.Told.{Told}
+use Rattle.fates.specs.Fates.{paired, started, weak, full, noSlot, shownFrom, Handed, isFree, freeSlot, ownerOf, shownMark, slotOf, toldPaired, toldUnpaired, toldOf, afterReport, reportNumbers, fatesOf, slotsOf}
+use Rattle.fates.proofs.Loops.{outs-at}
+use Rattle.fates.proofs.Telling.{fateOut, slotOut}
+use Rattle.fates.proofs.Starts.{tableAt}
+use Rattle.fates.proofs.Answers.{shown-at}
+use Rattle.sector.specs.Serve.{Chosen, Choice, reportsIn, fatesIn}
+use Rattle.promises.specs.Words.{fateAt, slotAt, shownAt, slotOfDue, dueTrack, updatesBefore, PairedWithOld, ToldPaired, ShownExactlyWhen}
+use Rattle.promises.proofs.Pairings.{few-reports, one-to-one}
+
+-- ---- due tracks have slots of their own
+
+-- a list of places rises
+module _ {A : Type 0} (p : A → Bool) where
+  rises : (base : ℕ) (xs : List A) (d : A) (a b : ℕ) → a < b → b < length (indicesFrom p base xs) → getD (indicesFrom p base xs) a 0 < getD (indicesFrom p base xs) b 0
+  unfolding indicesFrom
+  rises base [] d a b h l = absurd (not-suc-le-zero l)
+  rises base (x ∷ xs) d a b h l = go (p x) a b h l (rises (suc base) xs d)
+    where
+      go : (t : Bool) (a b : ℕ) → a < b → b < length (cond t (base ∷ indicesFrom p (suc base) xs) (indicesFrom p (suc base) xs)) → ((a b : ℕ) → a < b → b < length (indicesFrom p (suc base) xs) → getD (indicesFrom p (suc base) xs) a 0 < getD (indicesFrom p (suc base) xs) b 0) → getD (cond t (base ∷ indicesFrom p (suc base) xs) (indicesFrom p (suc base) xs)) a 0 < getD (cond t (base ∷ indicesFrom p (suc base) xs) (indicesFrom p (suc base) xs)) b 0
+      go true a zero h l rest = absurd (not-suc-le-zero h)
+      go true zero (suc b) h l rest = named p (suc base) xs d b (le-of-suc-le-suc l) .from
+      go true (suc a) (suc b) h l rest = rest a b (le-of-suc-le-suc h) (le-of-suc-le-suc l)
+      go false a b h l rest = rest a b h l
+
+-- Two due tracks in one slot are the same track.
+pub due-slots-differ : (i : Input) (n k : ℕ) → n < tracksOf i → k < tracksOf i → slotOfDue i n ≡ slotOfDue i k → n ≡ k
+unfolding tracksOf dueSlots
+due-slots-differ i n k a b e =
+    ⊎-elim
+    (λ l. ⊎-elim (λ m. omega arith) (λ m. absurd (omega (arith, rises slotDue 0 (i .table) [] n k m b))) (le-or-lt k n))
+    (λ l. absurd (omega (arith, rises slotDue 0 (i .table) [] k n l a)))
+    (le-or-lt n k)
+
+-- the n-th due track's rank is n
+pub rank-is : (i : Input) (n : ℕ) → n < tracksOf i → rankOf (i .table) (slotOfDue i n) ≡ n
+unfolding tracksOf
+rank-is i n l =
+    let w = due-at-rank i (slotOfDue i n) (due-lies i n l) (due-is-due i n l) in
+    due-slots-differ i (rankOf (i .table) (slotOfDue i n)) n (w .0) l (w .1)
+
+-- the slot of the n-th due track after pairing, where it has a report
+pub settled-due : (i : Input) (P : List ℕ) (n : ℕ) → n < tracksOf i → Paired (at P) n → getD (settledTable i P) (slotOfDue i n) [] ≡ bytesOf (updatedOf (dueTrack i n) (reportOf (getD (i .batch) (at P n) [])) (i .sector))
+unfolding tracksOf settledSlot pairedSlot
+settled-due i P n l p =
+    settled-at i P (slotOfDue i n) (due-lies i n l)
+    ∙ rw (due-is-due i n l, rank-is i n l, ne-eqb (at P n) none p)
+
+-- ---- who has a report
+
+-- the place that the pairing has report j at names it
+pub owner-has : (P : List ℕ) (j : ℕ) → ownerOf P j < length P → at P (ownerOf P j) ≡ j
+unfolding ownerOf
+owner-has P j l = sym (eqb-true j _ (first-found (eqb j) P 0 l))
+
+-- and where some place names it, there is such a place
+pub owner-there : (P : List ℕ) (j n : ℕ) → n < length P → at P n ≡ j → ownerOf P j < length P
+unfolding ownerOf
+owner-there P j n l e =
+    ⊎-elim
+    (λ m. absurd (clash (eq-eqb j (at P n) (sym e)) (first-before (eqb j) P 0 n (omega arith))))
+    (λ m. m)
+    (le-or-lt (length P) (firstIndex (eqb j) P))
+
+-- ---- what one report is told
+
+told-paired : (h : Handed) (P : List ℕ) (j : ℕ) (table : List (List ℕ)) → ownerOf P j < length P → (toldOf h P j table .fate ≡ paired) × (toldOf h P j table .slot ≡ slotOf h P j)
+unfolding toldOf toldPaired
+told-paired h P j table l = rw (lt-ltb (ownerOf P j) (length P) l) (refl, refl)
+
+told-unpaired : (h : Handed) (P : List ℕ) (j : ℕ) (table : List (List ℕ)) → length P ≤ ownerOf P j → toldOf h P j table .fate ≡ paired → ⊥
+unfolding toldOf toldUnpaired
+told-unpaired h P j table l = rw (le-ltb (ownerOf P j) (length P) l) (go (isWeak (reportOf (getD (h .batch) j []))) (leb (length table) (freeSlot table)))
+  where
+    go : (b c : Bool) → (cond {A = Told} b (record { fate = weak; slot = noSlot; shown = 0 }) (cond c (record { fate = full; slot = noSlot; shown = 0 }) (record { fate = started; slot = freeSlot table; shown = 0 }))) .fate ≡ paired → ⊥
+    go true c e = omega arith
+    go false true e = omega arith
+    go false false e = omega arith
+
+module _ (i : Input) (P : List ℕ) (j : ℕ) (here : j < reportsOf i) where
+  fate-is : fateAt i P j ≡ toldOf (reportsIn i) P j (tableAt (reportsIn i) P j (settledTable i P)) .fate
+  unfolding fatesIn fatesOf reportNumbers reportsOf
+  fate-is = outs-at (afterReport (reportsIn i) P) (fateOut (reportsIn i) P) (length (i .batch)) (λ k. k) (settledTable i P) j 0 here
+
+  slot-is : slotAt i P j ≡ toldOf (reportsIn i) P j (tableAt (reportsIn i) P j (settledTable i P)) .slot
+  unfolding slotsOf reportNumbers reportsOf
+  slot-is = outs-at (afterReport (reportsIn i) P) (slotOut (reportsIn i) P) (length (i .batch)) (λ k. k) (settledTable i P) j 0 here
+
+  -- told paired: some place of the pairing names the report
+  pub paired-when : ownerOf P j < length P → fateAt i P j ≡ paired
+  paired-when l = fate-is ∙ told-paired (reportsIn i) P j _ l .0
+
+  pub paired-only : fateAt i P j ≡ paired → ownerOf P j < length P
+  paired-only e =
+      ⊎-elim (λ m. absurd (told-unpaired (reportsIn i) P j _ m (sym fate-is ∙ e))) (λ m. m) (le-or-lt (length P) (ownerOf P j))
+
+  -- and the slot is that of the due track at that place
+  pub paired-slot : ownerOf P j < length P → slotAt i P j ≡ slotOfDue i (ownerOf P j)
+  unfolding slotOf
+  paired-slot l = slot-is ∙ told-paired (reportsIn i) P j _ l .1
+
+-- ---- a chosen pairing
+
+module _ (i : Input) (c : Chosen) (h : Choice i c) (j : ℕ) (here : j < reportsOf i) where
+  abbrev owner : ℕ
+  owner = ownerOf (c .pairing) j
+
+  owner-due : owner < length (c .pairing) → owner < tracksOf i
+  owner-due l = omega (arith, h .number-each)
+
+  named-is-paired : (n : ℕ) → at (c .pairing) n ≡ j → Paired (at (c .pairing)) n
+  named-is-paired n e z = omega (arith, few-reports i c h)
+
+  -- the place that names report j is the only one
+  owner-is : (n : ℕ) → n < tracksOf i → at (c .pairing) n ≡ j → (owner < length (c .pairing)) × (owner ≡ n)
+  owner-is n l e =
+      let o : owner < length (c .pairing) = owner-there (c .pairing) j n (rw (h .number-each) l) e in
+      let w : at (c .pairing) owner ≡ j = owner-has (c .pairing) j o in
+      (o, one-to-one i c h owner n (owner-due o) l (named-is-paired owner w) (w ∙ sym e))
+
+  -- The pairing can be read off the answer: the n-th due track has report j exactly when report j is told paired, in that track's slot.
+  pub pairing-is-read-off : (n : ℕ) → n < tracksOf i → (at (c .pairing) n ≡ j → ToldPaired i (c .pairing) j n) × (ToldPaired i (c .pairing) j n → at (c .pairing) n ≡ j)
+  pairing-is-read-off n l = (said, read)
+    where
+      said : at (c .pairing) n ≡ j → ToldPaired i (c .pairing) j n
+      said e =
+          let o = owner-is n l e in
+          record { fate = paired-when i (c .pairing) j here (o .0); slot = paired-slot i (c .pairing) j here (o .0) ∙ ap (slotOfDue i) (o .1) }
+
+      read : ToldPaired i (c .pairing) j n → at (c .pairing) n ≡ j
+      read t =
+          let o : owner < length (c .pairing) = paired-only i (c .pairing) j here (t .fate) in
+          let e : owner ≡ n = due-slots-differ i owner n (owner-due o) l (sym (paired-slot i (c .pairing) j here o) ∙ t .slot) in
+          rw e at (owner-has (c .pairing) j o)
+
+-- One to one, in the answer's words: two reports that are told paired with the same slot are the same report.
+pub one-slot-one-report : (i : Input) (c : Chosen) → Choice i c → (j k : ℕ) → j < reportsOf i → k < reportsOf i → fateAt i (c .pairing) j ≡ paired → fateAt i (c .pairing) k ≡ paired → slotAt i (c .pairing) j ≡ slotAt i (c .pairing) k → j ≡ k
+one-slot-one-report i c h j k a b f g e =
+    let oj : ownerOf (c .pairing) j < length (c .pairing) = paired-only i (c .pairing) j a f in
+    let ok : ownerOf (c .pairing) k < length (c .pairing) = paired-only i (c .pairing) k b g in
+    let s : ownerOf (c .pairing) j ≡ ownerOf (c .pairing) k =
+    due-slots-differ i (ownerOf (c .pairing) j) (ownerOf (c .pairing) k) (omega (arith, h .number-each)) (omega (arith, h .number-each))
+    (sym (paired-slot i (c .pairing) j a oj) ∙ e ∙ paired-slot i (c .pairing) k b ok) in
+    sym (owner-has (c .pairing) j oj) ∙ ap (at (c .pairing)) s ∙ owner-has (c .pairing) k ok
+
+-- ---- shown
+
+-- a slot that a pair settled is not free, and its track is shown from its third update on
+updated-held : (t : Track) (p : Report) (s : ℕ) → isFree (bytesOf (updatedOf t p s)) ≡ false
+unfolding isFree bytesOf updatedOf
+updated-held t p s = refl
+
+bytes-updates : (t : Track) → trackOf (bytesOf t) .updates ≡ t .updates
+unfolding trackOf bytesOf
+bytes-updates t = refl
+
+updated-shown : (t : Track) (p : Report) (s : ℕ) → shownMark (bytesOf (updatedOf t p s)) ≡ cond (leb updatesBefore (t .updates)) 1 0
+unfolding shownMark
+updated-shown t p s =
+    rw (bytes-updates (updatedOf t p s), updated-updates t p s)
+    (⊎-elim
+    (λ l. rw (le-leb updatesBefore (t .updates) l, le-leb shownFrom (min (t .updates + 1) updatesMost) (omega arith)))
+    (λ l. rw (lt-leb updatesBefore (t .updates) l, lt-leb shownFrom (min (t .updates + 1) updatesMost) (omega arith)))
+    (le-or-lt updatesBefore (t .updates)))
+
+module _ (i : Input) (c : Chosen) (h : Choice i c) (j : ℕ) (here : j < reportsOf i) where
+  owner-slot : ownerOf (c .pairing) j < length (c .pairing) → getD (settledTable i (c .pairing)) (slotOf (reportsIn i) (c .pairing) j) [] ≡ bytesOf (updatedOf (dueTrack i (ownerOf (c .pairing) j)) (reportOf (getD (i .batch) (at (c .pairing) (ownerOf (c .pairing) j)) [])) (i .sector))
+  unfolding slotOf
+  owner-slot l = settled-due i (c .pairing) (ownerOf (c .pairing) j) (owner-due i c h j here l) (named-is-paired i c h j here (ownerOf (c .pairing) j) (owner-has (c .pairing) j l))
+
+  shown-is : shownAt i (c .pairing) j ≡ cond (ltb (ownerOf (c .pairing) j) (length (c .pairing))) (shownMark (getD (settledTable i (c .pairing)) (slotOf (reportsIn i) (c .pairing) j) [])) 0
+  unfolding reportsOf
+  shown-is = shown-at (reportsIn i) (c .pairing) (settledTable i (c .pairing)) j here (λ l. rw (owner-slot l) (updated-held _ _ _))
+
+  shown-unpaired : length (c .pairing) ≤ ownerOf (c .pairing) j → shownAt i (c .pairing) j ≡ 0
+  shown-unpaired l = shown-is ∙ rw (le-ltb (ownerOf (c .pairing) j) (length (c .pairing)) l)
+
+  shown-paired : ownerOf (c .pairing) j < length (c .pairing) → shownAt i (c .pairing) j ≡ cond (leb updatesBefore (dueTrack i (ownerOf (c .pairing) j) .updates)) 1 0
+  shown-paired l = shown-is ∙ rw (lt-ltb (ownerOf (c .pairing) j) (length (c .pairing)) l, owner-slot l) (updated-shown _ _ _)
+
+  -- A report is shown exactly when it is paired with a due track that had two updates or more; another is told 0.
+  pub shown-exactly-when : ShownExactlyWhen i (c .pairing) j
+  shown-exactly-when =
+      ⊎-elim
+      (λ l. record {
+        only = λ e. absurd (omega (arith, shown-unpaired l));
+        when = λ w. absurd (omega (arith, owner-is i c h j here (w .place) (w .due) (w .has) .0));
+        otherwise = λ n. shown-unpaired l;
+      })
+      (λ l. ⊎-elim (old l) (young l) (le-or-lt updatesBefore (dueTrack i (ownerOf (c .pairing) j) .updates)))
+      (le-or-lt (length (c .pairing)) (ownerOf (c .pairing) j))
+    where
+      old : ownerOf (c .pairing) j < length (c .pairing) → updatesBefore ≤ dueTrack i (ownerOf (c .pairing) j) .updates → ShownExactlyWhen i (c .pairing) j
+      old l u =
+          let e : shownAt i (c .pairing) j ≡ 1 = shown-paired l ∙ rw (le-leb updatesBefore (dueTrack i (ownerOf (c .pairing) j) .updates) u) in
+          let w : PairedWithOld i (c .pairing) j = record { place = ownerOf (c .pairing) j; due = owner-due i c h j here l; has = owner-has (c .pairing) j l; old = u } in
+          record { only = λ q. w; when = λ q. e; otherwise = λ n. absurd (n w) }
+
+      young : ownerOf (c .pairing) j < length (c .pairing) → dueTrack i (ownerOf (c .pairing) j) .updates < updatesBefore → ShownExactlyWhen i (c .pairing) j
+      young l u =
+          let e : shownAt i (c .pairing) j ≡ 0 = shown-paired l ∙ rw (lt-leb updatesBefore (dueTrack i (ownerOf (c .pairing) j) .updates) u) in
+          record {
+            only = λ q. absurd (omega arith);
+            when = λ w.
+                let o : ownerOf (c .pairing) j ≡ w .place = owner-is i c h j here (w .place) (w .due) (w .has) .1 in
+                absurd (omega (arith, rw (← o) at (w .old)));
+            otherwise = λ n. e;
+          }

@@ -1,0 +1,2 @@
+-- Words for what the answer of a served call says.
+pub mod Words

@@ -1,0 +1,122 @@
+-- What a call and its answer say: of one report, of one due track, of all of them; P is the pairing. Assumes nothing.
+use Prim.Native.Nat.{ℕ, _+_, _-_, _≤_, _<_}
+use mathlib.Core.Path.{_≡_}
+use mathlib.Core.Bool.{Bool}
+use mathlib.Core.List.{List, []}
+use lib.Dec.{eqb}
+use lib.ListN.{length, getD}
+use Rattle.laws.specs.Lists.{indicesFrom}
+use Rattle.records.specs.declared.Track.{Track}
+use Rattle.records.specs.Fields.{held}
+use Rattle.records.specs.Bytes.{markAt, trackOf}
+use Rattle.matching.specs.Pairing.{pairs, scoreSum, at}
+use Rattle.intake.specs.Refusals.{Input, dueSlots}
+use Rattle.scoresheet.specs.Cells.{tracksOf, reportsOf, sectorSheet}
+use Rattle.walk.specs.Table.{settledTable}
+use Rattle.fates.specs.Fates.{paired, shownFrom, slotsOf, shownOf}
+use Rattle.sector.specs.declared.Counts.{Counts}
+use Rattle.sector.specs.declared.Served.{Served}
+use Rattle.sector.specs.declared.Served.the-variants.{Refused}
+use Rattle.sector.specs.Serve.{Lent, sectorRefusal, Chosen, reportsIn, fatesIn}
+
+-- what report j is told: its fate, its slot, whether it is shown
+abbrev pub fateAt : Input → List ℕ → ℕ → ℕ
+fateAt i P j = getD (fatesIn i P) j 0
+
+abbrev pub slotAt : Input → List ℕ → ℕ → ℕ
+slotAt i P j = getD (slotsOf (reportsIn i) P (settledTable i P)) j 0
+
+abbrev pub shownAt : Input → List ℕ → ℕ → ℕ
+shownAt i P j = getD (shownOf (reportsIn i) P (settledTable i P)) j 0
+
+-- the slot of the n-th due track, and that track as the call found it
+abbrev pub slotOfDue : Input → ℕ → ℕ
+slotOfDue i n = getD (dueSlots (i .table)) n 0
+
+abbrev pub dueTrack : Input → ℕ → Track
+dueTrack i n = trackOf (getD (i .table) (slotOfDue i n) [])
+
+-- so many updates before the one that shows a track
+abbrev pub updatesBefore : ℕ
+updatesBefore = shownFrom - 1
+
+-- report j is paired with the due track at some place, which had two updates or more when the call came
+pub record PairedWithOld (i : Input) (P : List ℕ) (j : ℕ) : Type 0 where
+  pub place : ℕ
+  pub due : place < tracksOf i
+  pub has : at P place ≡ j
+  pub old : updatesBefore ≤ dueTrack i place .updates
+
+-- report j is told that it is paired, in the slot of the n-th due track
+pub record ToldPaired (i : Input) (P : List ℕ) (j n : ℕ) : Type 0 where
+  pub fate : fateAt i P j ≡ paired
+  pub slot : slotAt i P j ≡ slotOfDue i n
+
+-- the shown mark of report j is 1 exactly when it is so paired, else 0
+pub record ShownExactlyWhen (i : Input) (P : List ℕ) (j : ℕ) : Type 0 where
+  pub only : shownAt i P j ≡ 1 → PairedWithOld i P j
+  pub when : PairedWithOld i P j → shownAt i P j ≡ 1
+  pub otherwise : (PairedWithOld i P j → ⊥) → shownAt i P j ≡ 0
+
+-- the n-th due track has a report, which is told so, and is shown where the track had two updates or more
+pub record TrackServed (i : Input) (P : List ℕ) (n : ℕ) : Type 0 where
+  pub report : ℕ
+  pub here : report < reportsOf i
+  pub has : at P n ≡ report
+  pub told : ToldPaired i P report n
+  pub shown : updatesBefore ≤ dueTrack i n .updates → shownAt i P report ≡ 1
+
+-- how many slots of a table hold a track
+unfoldable pub isHeld : List ℕ → Bool
+isHeld slot = eqb (at slot markAt) held
+
+unfoldable pub heldCount : List (List ℕ) → ℕ
+heldCount table = length (indicesFrom isHeld 0 table)
+
+-- the n-th due track, as the answer shows it: some report is told paired in its slot, and is shown where the track had two updates or more
+pub record SeenServed (i : Input) (l′ : Lent) (n : ℕ) : Type 0 where
+  pub report : ℕ
+  pub here : report < reportsOf i
+  pub fate : getD (l′ .fates) report 0 ≡ paired
+  pub slot : getD (l′ .slots) report 0 ≡ slotOfDue i n
+  pub shown : updatesBefore ≤ dueTrack i n .updates → getD (l′ .shown) report 0 ≡ 1
+
+-- the first entries of the answer's lists are what report j is told, and its discount
+pub record AnswersTold (i : Input) (c : Chosen) (l′ : Lent) (j : ℕ) : Type 0 where
+  pub fate : getD (l′ .fates) j 0 ≡ fateAt i (c .pairing) j
+  pub slot : getD (l′ .slots) j 0 ≡ slotAt i (c .pairing) j
+  pub shown : getD (l′ .shown) j 0 ≡ shownAt i (c .pairing) j
+  pub discount : getD (l′ .discounts) j 0 ≡ at (c .discounts) j
+
+-- the counts of a served call account for all there is
+pub record Accounted (i : Input) (c : Chosen) (l′ : Lent) (counts : Counts) : Type 0 where
+  -- each report has one fate
+  pub reports : counts .paired + counts .started + counts .weak + counts .full ≡ reportsOf i
+  -- each due track is paired, coasts or is dropped
+  pub due-tracks : counts .paired + counts .coasted + counts .dropped ≡ tracksOf i
+  -- paired and score sum are those of the pairing
+  pub as-paired : counts .paired ≡ pairs (sectorSheet i) (at (c .pairing))
+  pub as-scored : counts .«score_sum» ≡ scoreSum (sectorSheet i) (at (c .pairing))
+  -- held slots after = before + started - dropped, said with the dropped ones on the other side
+  pub slots : heldCount (l′ .table) + counts .dropped ≡ heldCount (i .table) + counts .started
+
+-- ---- a call as a whole
+
+-- the answer is the refusal by number k exactly when k is the number that the call is to give back; then all that was lent keeps its bytes
+pub record RefusedExactlyWhen (i : Input) (l l′ : Lent) (answer : Served) (k : ℕ) : Type 0 where
+  pub only : answer ≡ Refused k → (sectorRefusal i l ≡ k) × (k ≡ 0 → ⊥)
+  pub when : sectorRefusal i l ≡ k → (k ≡ 0 → ⊥) → answer ≡ Refused k
+  pub kept : answer ≡ Refused k → l′ ≡ l
+
+-- two choices have as many pairs and the same sum of pair scores, also as counted
+pub record SameScore (i : Input) (c d : Chosen) (n m : Counts) : Type 0 where
+  pub same-pairs : pairs (sectorSheet i) (at (c .pairing)) ≡ pairs (sectorSheet i) (at (d .pairing))
+  pub same-scores : scoreSum (sectorSheet i) (at (c .pairing)) ≡ scoreSum (sectorSheet i) (at (d .pairing))
+  pub same-counted : n .«score_sum» ≡ m .«score_sum»
+
+-- two counts that differ at most in what became of the tracks and of the reports that are left out
+pub record CountedAlike (n m : Counts) : Type 0 where
+  pub paired : n .paired ≡ m .paired
+  pub missed : n .coasted + n .dropped ≡ m .coasted + m .dropped
+  pub unpaired : n .started + n .weak + n .full ≡ m .started + m .weak + m .full
+  pub scored : n .«score_sum» ≡ m .«score_sum»
