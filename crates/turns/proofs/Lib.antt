@@ -1,0 +1,2 @@
+-- What holds over many calls: the table that is handed on, one slot in one call, and a track until its turn comes again.
+pub mod Table

@@ -1,0 +1,41 @@
+-- Accepted sector calls, one after another (01, 'Numbers carried': a wait counts accepted calls). Assumes nothing.
+use Prim.Native.Nat.{ℕ, suc, _≤_, _<_}
+use mathlib.Core.Path.{_≡_}
+use mathlib.Core.List.{List, []}
+use lib.ListN.{length, getD}
+use Rattle.numbers.specs.Scales.{sectors}
+use Rattle.records.specs.declared.Site.{Site}
+use Rattle.records.specs.Fields.{trackFields}
+use Rattle.records.specs.Bytes.{badSlotField}
+use Rattle.sector.specs.declared.Served.{Served}
+use Rattle.sector.specs.Serve.{Lent, handedIn, sectorRefusal, ServesSector}
+
+-- an accepted call: what it was handed and answered; l was lent to it, and l′ is what it left there
+pub record Accepted (l l′ : Lent) : Type 0 where
+  pub site : Site
+  pub batch : List (List ℕ)
+  pub answer : Served
+  pub not-refused : sectorRefusal (handedIn l site batch) l ≡ 0
+  pub promise : ServesSector (handedIn l site batch) l l′ answer
+
+-- the next call is lent the table and the sector as they were left; the lists for its answer may be others
+pub record HandsOn (l′ next : Lent) : Type 0 where
+  pub table : next .table ≡ l′ .table
+  pub sector : next .sector ≡ l′ .sector
+
+-- n accepted calls after one that left l; the last of them left l′
+pub data Calls : ℕ → Lent → Lent → Type 0 where
+  no-more : {l : Lent} → Calls 0 l l
+  one-more : {n : ℕ} {l l′ next last : Lent} → Calls n l l′ → HandsOn l′ next → Accepted next last → Calls (suc n) l last
+
+-- what a call leaves is fit for the next: as many slots as before, a sector, and no slot malformed
+pub record LeftGood (slots : ℕ) (l′ : Lent) : Type 0 where
+  pub slots-same : length (l′ .table) ≡ slots
+  pub sector-in : l′ .sector < sectors
+  pub slots-good : (k : ℕ) → k < length (l′ .table) → badSlotField (getD (l′ .table) k []) (l′ .sector) ≡ trackFields
+
+-- a number that the table or the sector can be refused by
+pub data OfTable : ℕ → Type 0 where
+  is-1 : OfTable 1
+  is-2 : OfTable 2
+  is-4 : OfTable 4
