@@ -1,12 +1,14 @@
 -- Accepted sector calls, one after another (01, 'Numbers carried': a wait counts accepted calls). Assumes nothing.
-use Prim.Native.Nat.{ℕ, suc, _≤_, _<_}
+use Prim.Native.Nat.{ℕ, suc, _+_, _-_, _%_, _≤_, _<_}
 use mathlib.Core.Path.{_≡_}
+use mathlib.Core.Bool.{true}
 use mathlib.Core.List.{List, []}
-use lib.ListN.{length, getD}
-use Rattle.numbers.specs.Scales.{sectors}
+use lib.ListN.{length, getD, set}
+use Rattle.numbers.specs.Scales.{sectors, soonest}
+use Rattle.numbers.specs.Sectors.{sectorOf, nextSector}
 use Rattle.records.specs.declared.Site.{Site}
-use Rattle.records.specs.Fields.{trackFields}
-use Rattle.records.specs.Bytes.{badSlotField}
+use Rattle.records.specs.Fields.{held, waitMost, trackFields}
+use Rattle.records.specs.Bytes.{at, waitAt, markAt, trackOf, badSlotField, slotDue}
 use Rattle.sector.specs.declared.Served.{Served}
 use Rattle.sector.specs.Serve.{Lent, handedIn, sectorRefusal, ServesSector}
 
@@ -39,3 +41,27 @@ pub data OfTable : ℕ → Type 0 where
   is-1 : OfTable 1
   is-2 : OfTable 2
   is-4 : OfTable 4
+
+-- ---- one slot
+
+-- what stands in slot k
+abbrev pub slotAt : Lent → ℕ → List ℕ
+slotAt l k = getD (l .table) k []
+
+-- n calls later a slot that holds a track has the same bytes but for the wait, which is n less
+pub record WaitsOn (n : ℕ) (slot after : List ℕ) : Type 0 where
+  pub only-wait : after ≡ set slot waitAt (at slot waitAt - n)
+  pub less : at after waitAt + n ≡ at slot waitAt
+
+-- the track in slot k was updated, coasted and kept, or started in a call that was lent l and left l′: the slot holds a track, and one
+-- that it held before the call was due
+pub record ServedIn (l l′ : Lent) (k : ℕ) : Type 0 where
+  pub lies : k < length (l .table)
+  pub is-held : at (slotAt l′ k) markAt ≡ held
+  pub was-due : at (slotAt l k) markAt ≡ held → slotDue (slotAt l k) ≡ true
+
+-- the stored wait is one of 15..46 and leads from the sector after s to the predicted sector
+pub record TurnSet (s : ℕ) (slot : List ℕ) : Type 0 where
+  pub not-sooner : soonest ≤ at slot waitAt + 1
+  pub not-later : at slot waitAt ≤ waitMost
+  pub turn-comes : (nextSector s + at slot waitAt) % sectors ≡ sectorOf (trackOf slot .azimuth)
