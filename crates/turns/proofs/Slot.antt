@@ -43,7 +43,7 @@ left-slot a k = ap (λ (x : Lent). slotAt x k) (known a .left)
 -- ---- a track that waits
 
 -- a wait is not the mark
-mark-kept : (slot : List ℕ) (w : ℕ) → at (set slot waitAt w) markAt ≡ at slot markAt
+pub mark-kept : (slot : List ℕ) (w : ℕ) → at (set slot waitAt w) markAt ≡ at slot markAt
 mark-kept slot w = getD-set-other slot waitAt markAt w 0 (λ e. omega arith)
 
 pub wait-stored : (slot : List ℕ) (w : ℕ) → Bytes slotBytes slot → at (set slot waitAt w) waitAt ≡ w

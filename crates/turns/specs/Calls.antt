@@ -3,6 +3,7 @@ use Prim.Native.Nat.{ℕ, suc, _+_, _-_, _%_, _≤_, _<_}
 use mathlib.Core.Path.{_≡_}
 use mathlib.Core.Bool.{true}
 use mathlib.Core.List.{List, []}
+use lib.Dec.{eqb}
 use lib.ListN.{length, getD, set}
 use Rattle.numbers.specs.Scales.{sectors, soonest}
 use Rattle.numbers.specs.Sectors.{sectorOf, nextSector}
@@ -65,3 +66,19 @@ pub record TurnSet (s : ℕ) (slot : List ℕ) : Type 0 where
   pub not-sooner : soonest ≤ at slot waitAt + 1
   pub not-later : at slot waitAt ≤ waitMost
   pub turn-comes : (nextSector s + at slot waitAt) % sectors ≡ sectorOf (trackOf slot .azimuth)
+
+-- ---- one slot over many calls
+
+-- a track that was in a slot is still there n calls later: it waits on, and is due just when n is its wait
+pub record StillThere (n : ℕ) (slot after : List ℕ) : Type 0 where
+  pub waits-on : WaitsOn n slot after
+  pub is-held : at after markAt ≡ held
+  pub due-when : slotDue after ≡ eqb n (at slot waitAt)
+
+-- of the calls after one that was lent l and left l′, the j-th is the first that finds the track in slot k due
+pub record DueAt (j : ℕ) (l l′ : Lent) (k : ℕ) : Type 0 where
+  pub not-sooner : soonest ≤ j
+  pub not-later : j < soonest + sectors
+  pub meets : (l .sector + j) % sectors ≡ sectorOf (trackOf (slotAt l′ k) .azimuth)
+  pub stored : at (slotAt l′ k) waitAt + 1 ≡ j
+  pub until : {n : ℕ} {last : Lent} → Calls n l′ last → n < j → StillThere n (slotAt l′ k) (slotAt last k)
