@@ -9,14 +9,14 @@ use borrow.Author.Tests.{eqb-true, eqb-false, eq-eqb, ne-eqb}
 use lib.Dec.{eqb}
 use lib.ListN.{length, getD, set, length-set}
 use lib.Seq.{getD-set-other, set-getD, set-set}
-use Rattle.numbers.specs.Scales.{sectors, soonest}
+use Rattle.numbers.specs.Scales.{sectors}
 use Rattle.numbers.specs.Sectors.{sectorOf, nextSector, callsAhead}
 use Rattle.numbers.proofs.SectorLaws.{ahead-only}
 use Rattle.records.specs.Fields.{held}
 use Rattle.records.specs.Bytes.{at, slotBytes, waitAt, markAt, trackOf, slotDue}
 use Rattle.records.proofs.RoundTrips.{Bytes}
 use Rattle.sector.specs.Serve.{Lent}
-use Rattle.turns.specs.Calls.{Accepted, HandsOn, LeftGood, Calls, no-more, one-more, slotAt, WaitsOn, ServedIn, TurnSet, StillThere, DueAt}
+use Rattle.turns.specs.Calls.{Accepted, Calls, no-more, one-more, slotAt, WaitsOn, ServedIn, TurnSet, StillThere, DueAt}
 use Rattle.turns.proofs.Table.{known, accepted-leaves-good}
 use Rattle.turns.proofs.Slot.{mark-kept, wait-stored, waits-one-less, served-waits}
 
@@ -99,7 +99,9 @@ served-due-again {l} {l′} a k w b = rw (← j-is) (record {
   where
     t : TurnSet (l .sector) (slotAt l′ k)
     t = served-waits a k w
+
     meets : (l .sector + (at (slotAt l′ k) waitAt + 1)) % sectors ≡ sectorOf (trackOf (slotAt l′ k) .azimuth)
     meets = from-here (l .sector) _ _ (t .turn-comes)
+
     j-is : at (slotAt l′ k) waitAt + 1 ≡ callsAhead (l .sector) (sectorOf (trackOf (slotAt l′ k) .azimuth))
     j-is = ahead-only (l .sector) _ _ (known a .is-ready .sector-in) (omega (arith, meets)) (t .not-sooner) (omega (arith, t .not-later)) meets

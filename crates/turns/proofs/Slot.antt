@@ -1,10 +1,10 @@
 -- One accepted call, seen by one slot. Assumes nothing.
-use Prim.Native.Nat.{ℕ, _+_, _-_, _≤_, _<_}
+use Prim.Native.Nat.{ℕ, _-_, _<_}
 use mathlib.Core.Path.{_≡_, refl, sym, ap, _∙_}
 use mathlib.Core.Bool.{Bool, true, false, cond}
 use mathlib.Core.List.{List, []}
 use native.Mathlib.Omega.{arith}
-use borrow.Author.Tests.{ltb-true, ltb-false, eqb-true, eqb-false, eq-eqb, ne-eqb}
+use borrow.Author.Tests.{ltb-true, ltb-false, eqb-true, eqb-false, ne-eqb}
 use lib.Dec.{eqb, ltb}
 use lib.ListN.{length, getD, set}
 use lib.Seq.{getD-set-same, getD-set-other, set-out}
@@ -20,7 +20,7 @@ use Rattle.records.proofs.Checked.{slot-well-formed, sound}
 use Rattle.records.proofs.RoundTrips.{Bytes, unpack-pack}
 use Rattle.settling.specs.declared.Unpaired.{Unpaired}
 use Rattle.settling.specs.declared.Unpaired.the-variants.{Kept, Dropped}
-use Rattle.settling.specs.Settle.{coastedOf, startedOf}
+use Rattle.settling.specs.Settle.{coastedOf}
 use Rattle.settling.proofs.HandedOn.{Served, updated-served, coasted-served, started-served}
 use Rattle.matching.specs.Pairing.{none}
 use Rattle.intake.specs.Refusals.{Input, Ready}
@@ -33,7 +33,7 @@ use Rattle.fates.proofs.Loops.{all-keep}
 use Rattle.fates.proofs.Starts.{GoodReports, report-keeps, held-slots-kept}
 use Rattle.sector.specs.Serve.{Lent, handedIn, reportsIn, afterOf}
 use Rattle.turns.specs.Calls.{Accepted, slotAt, WaitsOn, ServedIn, TurnSet}
-use Rattle.turns.proofs.Table.{Known, known, names, good-reports}
+use Rattle.turns.proofs.Table.{known, names, good-reports}
 
 -- the slot as the reports left it
 left-slot : {l l′ : Lent} (a : Accepted l l′) (k : ℕ) → slotAt l′ k ≡ getD (startedTable (reportsIn (handedIn l (a .site) (a .batch))) (known a .chosen .pairing) (settledTable (handedIn l (a .site) (a .batch)) (known a .chosen .pairing))) k []
@@ -75,12 +75,16 @@ waits-one-less {l} {l′} a k h b m d = record {
   where
     i : Input
     i = handedIn l (a .site) (a .batch)
+
     P : List ℕ
     P = known a .chosen .pairing
+
     slot : List ℕ
     slot = slotAt l k
+
     aged : getD (settledTable i P) k [] ≡ set slot waitAt (at slot waitAt - 1)
     aged = settled-at i P k h ∙ not-due-ages (i .sector) (i .batch) P slot (rankOf (i .table) k) d ∙ aged-byte slot b m
+
     whole : slotAt l′ k ≡ set slot waitAt (at slot waitAt - 1)
     whole = left-slot a k ∙ held-slots-kept (reportsIn i) P (settledTable i P) k (rw aged (held-not-free _ (mark-kept slot _ ∙ m))) ∙ aged
 
@@ -168,13 +172,18 @@ served-waits {l} {l′} a k w = record {
   where
     i : Input
     i = handedIn l (a .site) (a .batch)
+
     P : List ℕ
     P = known a .chosen .pairing
+
     r : Ready i
     r = known a .is-ready
+
     settled : Fresh (l .sector) (getD (settledTable i P) k [])
     settled = rw (settled-at i P k (w .lies)) (fresh-settled (settles-at i P r (names (known a .choice)) k (w .lies)) (w .was-due))
+
     left : Fresh (l .sector) (slotAt l′ k)
     left = rw (left-slot a k) (fresh-started (reportsIn i) P (settledTable i P) k (r .sector-in) (good-reports r) settled)
+
     t : Served (trackOf (slotAt l′ k)) (l .sector)
     t = left .served (held-not-free (slotAt l′ k) (w .is-held))

@@ -1,5 +1,5 @@
 -- What a served call leaves is fit for the next call. Assumes nothing.
-use Prim.Native.Nat.{ℕ, suc, _≤_, _<_}
+use Prim.Native.Nat.{ℕ, suc, _<_}
 use mathlib.Core.Path.{_≡_, refl, sym, _∙_}
 use mathlib.Core.Bool.{Bool, true, false, cond}
 use mathlib.Core.List.{List, [], _∷_}
@@ -19,14 +19,13 @@ use Rattle.records.specs.Bytes.{badSlotField}
 use Rattle.records.proofs.Checked.{sound}
 use Rattle.matching.proofs.Theorems.{zero-certificate}
 use Rattle.intake.specs.Refusals.{Input, mostSlots, slotBad, noneOf, demands, faultOf, refusalOf, Ready}
-use Rattle.intake.proofs.Readiness.{ready, fault-means, refused-by-fault, refused-by-room, not-refused}
-use Rattle.scoresheet.specs.Cells.{cellsOf, tracksOf, reportsOf, sectorSheet}
+use Rattle.intake.proofs.Readiness.{ready, fault-means, not-refused}
+use Rattle.scoresheet.specs.Cells.{cellsOf, tracksOf, reportsOf}
 use Rattle.walk.specs.Table.{settledTable}
 use Rattle.walk.specs.Counting.{Names}
 use Rattle.walk.proofs.Settled.{settled-length, settled-good}
-use Rattle.fates.specs.Fates.{startedTable}
 use Rattle.fates.proofs.Starts.{AllGood, GoodReports, started-length, started-good}
-use Rattle.sector.specs.Serve.{Lent, handedIn, roomFor, sectorRefusal, Chosen, Choice, reportsIn, afterOf, ServedWith}
+use Rattle.sector.specs.Serve.{Lent, handedIn, roomFor, sectorRefusal, Chosen, Choice, reportsIn, afterOf}
 use Rattle.turns.specs.Calls.{Accepted, HandsOn, LeftGood, OfTable, is-1, is-2, is-4}
 
 -- a pairing that the check accepts names, for each due track, a report that is there or none
