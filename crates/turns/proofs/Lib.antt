@@ -2,3 +2,4 @@
 pub mod Table
 pub mod Slot
 pub mod Again
+pub mod Told

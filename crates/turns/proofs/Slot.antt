@@ -36,7 +36,7 @@ use Rattle.turns.specs.Calls.{Accepted, slotAt, WaitsOn, ServedIn, TurnS
 use Rattle.turns.proofs.Table.{known, names, good-reports}
 
 -- the slot as the reports left it
-left-slot : {l l′ : Lent} (a : Accepted l l′) (k : ℕ) → slotAt l′ k ≡ getD (startedTable (reportsIn (handedIn l (a .site) (a .batch))) (known a .chosen .pairing) (settledTable (handedIn l (a .site) (a .batch)) (known a .chosen .pairing))) k []
+pub left-slot : {l l′ : Lent} (a : Accepted l l′) (k : ℕ) → slotAt l′ k ≡ getD (startedTable (reportsIn (handedIn l (a .site) (a .batch))) (known a .chosen .pairing) (settledTable (handedIn l (a .site) (a .batch)) (known a .chosen .pairing))) k []
 unfolding afterOf
 left-slot a k = ap (λ (x : Lent). slotAt x k) (known a .left)
 
@@ -49,7 +49,7 @@ mark-kept slot w = getD-set-other slot waitAt markAt w 0 (λ e. omega arith)
 pub wait-stored : (slot : List ℕ) (w : ℕ) → Bytes slotBytes slot → at (set slot waitAt w) waitAt ≡ w
 wait-stored slot w b = getD-set-same slot waitAt w 0 (omega (arith, b .count))
 
-held-not-free : (slot : List ℕ) → at slot markAt ≡ held → isFree slot ≡ false
+pub held-not-free : (slot : List ℕ) → at slot markAt ≡ held → isFree slot ≡ false
 unfolding isFree
 held-not-free slot e = rw e
 
@@ -62,7 +62,7 @@ unfolding trackOf
 track-held slot e = e
 
 -- it is aged, whatever the pairing
-not-due-ages : (s : ℕ) (batch : List (List ℕ)) (P slot : List ℕ) (rank : ℕ) → slotDue slot ≡ false → settledSlot s batch P slot rank ≡ agedSlot slot
+pub not-due-ages : (s : ℕ) (batch : List (List ℕ)) (P slot : List ℕ) (rank : ℕ) → slotDue slot ≡ false → settledSlot s batch P slot rank ≡ agedSlot slot
 unfolding settledSlot
 not-due-ages s batch P slot rank d = rw d
 
@@ -141,11 +141,11 @@ fresh-settled {s} {batch} {P} {slot} {rank} w n = go (slotDue slot) refl (eqb (a
         fresh-bytes (updated-served (trackOf slot) (reportOf p) s (w .sector-in) (sound (reportOf p) (w .reports-good _ (w .there d (eqb-false (at P rank) none e)))))
     go false d e q = fresh-aged w (λ m. clash (n m) d)
 
--- a new track in any slot keeps it so
-fresh-set : (s k j : ℕ) (table : List (List ℕ)) (v : List ℕ) → Fresh s (getD table k []) → Fresh s v → Fresh s (getD (set table j v) k [])
-fresh-set s k j table v q w = go (eqb k j) refl (ltb k (length table)) refl
+-- what holds of slot k, and of what is stored in any slot, holds of slot k after
+pub set-keeps : (R : List ℕ → Type 0) (k j : ℕ) (table : List (List ℕ)) (v : List ℕ) → R (getD table k []) → R v → R (getD (set table j v) k [])
+set-keeps R k j table v q w = go (eqb k j) refl (ltb k (length table)) refl
   where
-    go : (b : Bool) → eqb k j ≡ b → (c : Bool) → ltb k (length table) ≡ c → Fresh s (getD (set table j v) k [])
+    go : (b : Bool) → eqb k j ≡ b → (c : Bool) → ltb k (length table) ≡ c → R (getD (set table j v) k [])
     go true e true h = let m : j ≡ k = sym (eqb-true k j e) in rw (m, getD-set-same table k v [] (ltb-true k (length table) h)) w
     go true e false h = let m : j ≡ k = sym (eqb-true k j e) in rw (m, set-out table k v (ltb-false k (length table) h)) q
     go false e c h = rw (getD-set-other table j k v [] (eqb-false k j e)) q
@@ -154,7 +154,7 @@ fresh-started : (h : Handed) (P : List ℕ) (table : List (List ℕ)) (k : ℕ) 
 unfolding startedTable reportNumbers
 fresh-started h P table k l w g =
     all-keep (afterReport h P) Q (length (h .batch)) (λ j. j) table
-    (λ j t i q. report-keeps Q h P j t q (fresh-set (h .sector) k (freeSlot t) t _ q (fresh-bytes (started-served _ (h .sector) l (w .azimuth-in j i) (w .sound j i)))))
+    (λ j t i q. report-keeps Q h P j t q (set-keeps (Fresh (h .sector)) k (freeSlot t) t _ q (fresh-bytes (started-served _ (h .sector) l (w .azimuth-in j i) (w .sound j i)))))
     g
   where
     Q : List (List ℕ) → Type 0

@@ -5,7 +5,7 @@ use mathlib.Core.Bool.{Bool, true, false, cond}
 use mathlib.Core.List.{List, [], _∷_}
 use native.Mathlib.Nat.{le-of-eq}
 use native.Mathlib.Omega.{arith}
-use borrow.Author.Tests.{le-leb, lt-ltb}
+use borrow.Author.Tests.{eqb-true, eqb-false, le-leb, lt-ltb}
 use lib.Dec.{eqb}
 use lib.ListN.{length, getD}
 use Rattle.laws.proofs.Search.{first-nowhere}
@@ -25,7 +25,9 @@ use Rattle.walk.specs.Table.{settledTable}
 use Rattle.walk.specs.Counting.{Names}
 use Rattle.walk.proofs.Settled.{settled-length, settled-good}
 use Rattle.fates.proofs.Starts.{AllGood, GoodReports, started-length, started-good}
-use Rattle.sector.specs.Serve.{Lent, handedIn, roomFor, sectorRefusal, Chosen, Choice, reportsIn, afterOf}
+use Rattle.sector.specs.declared.Served.{Served}
+use Rattle.sector.specs.declared.Served.the-variants.{Refused}
+use Rattle.sector.specs.Serve.{ServesSector, Lent, handedIn, roomFor, sectorRefusal, Chosen, Choice, reportsIn, afterOf}
 use Rattle.turns.specs.Calls.{Accepted, HandsOn, LeftGood, OfTable, is-1, is-2, is-4}
 
 -- a pairing that the check accepts names, for each due track, a report that is there or none
@@ -124,3 +126,16 @@ module _ {l l′ next : Lent} (a : Accepted l l′) (o : HandsOn l′ next) (sit
   never-refused-1-2-4 is-1 = not-by (handedIn next site batch) _ 0 (omega arith) (demand-met is-1)
   never-refused-1-2-4 is-2 = not-by (handedIn next site batch) _ 1 (omega arith) (demand-met is-2)
   never-refused-1-2-4 is-4 = not-by (handedIn next site batch) _ 3 (omega arith) (demand-met is-4)
+
+  -- So it never answers 1, 2 or 4.
+  pub never-answered-1-2-4 : {number : ℕ} {last : Lent} {answer : Served} → OfTable number → ServesSector (handedIn next site batch) next last answer → answer ≡ Refused number → ⊥
+  never-answered-1-2-4 {number} {last} {answer} n w e = go (eqb (sectorRefusal (handedIn next site batch) next) 0) refl
+    where
+      go : (b : Bool) → eqb (sectorRefusal (handedIn next site batch) next) 0 ≡ b → ⊥
+      go true z =
+          let d = w .served (eqb-true _ 0 z) .done in
+          let no : _≡_ {A = ℕ} 0 1 = cc in
+          omega arith
+      go false z =
+          let d = w .refused (eqb-false _ 0 z) .0 in
+          never-refused-1-2-4 n (cc)

@@ -10,6 +10,7 @@ use Rattle.numbers.specs.Sectors.{sectorOf, nextSector}
 use Rattle.records.specs.declared.Site.{Site}
 use Rattle.records.specs.Fields.{held, waitMost, trackFields}
 use Rattle.records.specs.Bytes.{at, waitAt, markAt, trackOf, badSlotField, slotDue}
+use Rattle.fates.specs.Fates.{paired, started}
 use Rattle.sector.specs.declared.Served.{Served}
 use Rattle.sector.specs.Serve.{Lent, handedIn, sectorRefusal, ServesSector}
 
@@ -60,6 +61,11 @@ pub record ServedIn (l l′ : Lent) (k : ℕ) : Type 0 where
   pub lies : k < length (l .table)
   pub is-held : at (slotAt l′ k) markAt ≡ held
   pub was-due : at (slotAt l k) markAt ≡ held → slotDue (slotAt l k) ≡ true
+
+-- the fates of a report that has a track: its slot is told with it
+pub data HasTrack : ℕ → Type 0 where
+  by-pair : HasTrack paired
+  by-start : HasTrack started
 
 -- the stored wait is one of 15..46 and leads from the sector after s to the predicted sector
 pub record TurnSet (s : ℕ) (slot : List ℕ) : Type 0 where
