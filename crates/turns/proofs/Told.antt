@@ -1,5 +1,5 @@
 -- A report that is told paired or started names the slot of a track that the call served or started. Assumes nothing.
-use Prim.Native.Nat.{ℕ, zero, suc, _-_, _≤_, _<_}
+use Prim.Native.Nat.{ℕ, zero, suc, _-_, _<_}
 use mathlib.Core.Path.{_≡_, refl, sym, ap, _∙_}
 use mathlib.Core.Bool.{Bool, true, false, cond}
 use mathlib.Core.List.{List, [], _∷_, _++_}
@@ -7,7 +7,7 @@ use native.Mathlib.Nat.{le-of-suc-le-suc, not-suc-le-zero}
 use native.Mathlib.Omega.{arith}
 use borrow.Author.Tests.{ltb-true, leb-false, eqb-true, eq-eqb, ne-eqb}
 use lib.Dec.{eqb, ltb, leb}
-use lib.ListN.{length, getD, set, take, drop, List·getD-append}
+use lib.ListN.{length, getD, set, take, List·getD-append}
 use lib.Seq.{getD-set-same}
 use Rattle.laws.specs.Lists.{afterAll, indicesFrom, listed}
 use Rattle.laws.proofs.Search.{first-found}
@@ -17,19 +17,19 @@ use Rattle.records.specs.Fields.{held, isWeak}
 use Rattle.records.specs.Bytes.{at, markAt, trackOf, bytesOf, reportOf, slotDue}
 use Rattle.settling.specs.Settle.{updatedOf, startedOf, agedOf}
 use Rattle.matching.specs.Pairing.{none}
-use Rattle.intake.specs.Refusals.{Input, dueSlots, Ready}
-use Rattle.scoresheet.specs.Cells.{tracksOf, reportsOf}
-use Rattle.scoresheet.proofs.Due.{named, dueSlot, due-lies, due-is-due}
+use Rattle.intake.specs.Refusals.{Input, dueSlots}
+use Rattle.scoresheet.specs.Cells.{tracksOf}
+use Rattle.scoresheet.proofs.Due.{Named, named, dueSlot, due-lies, due-is-due}
 use Rattle.walk.specs.Table.{pairedSlot, agedSlot, settledSlot, settledTable}
 use Rattle.walk.proofs.Settled.{rankOf, settled-length, settled-at}
-use Rattle.fates.specs.Fates.{paired, started, weak, full, noSlot, Handed, isFree, freeSlot, ownerOf, slotOf, toldPaired, toldUnpaired, toldOf, afterUnpaired, afterReport, reportNumbers, startedTable, fatesOf, slotsOf}
+use Rattle.fates.specs.Fates.{paired, started, Handed, isFree, freeSlot, ownerOf, slotOf, toldPaired, toldUnpaired, toldOf, afterUnpaired, afterReport, reportNumbers, startedTable, fatesOf, slotsOf}
 use Rattle.fates.proofs.Loops.{all-keep, outs-at}
 use Rattle.fates.proofs.Telling.{fateOut, slotOut}
-use Rattle.fates.proofs.Starts.{newSlot, report-keeps, tableAt, length-at, held-at, held-slots-kept}
+use Rattle.fates.proofs.Starts.{report-keeps, tableAt, length-at, held-at, held-slots-kept}
 use Rattle.fates.proofs.Answers.{length-fates, length-slots}
 use Rattle.sector.specs.Serve.{Lent, handedIn, Chosen, Choice, reportsIn, fatesIn, afterOf}
 use Rattle.turns.specs.Calls.{Accepted, slotAt, ServedIn, HasTrack, by-pair, by-start}
-use Rattle.turns.proofs.Table.{Known, known}
+use Rattle.turns.proofs.Table.{known}
 use Rattle.turns.proofs.Slot.{left-slot, held-not-free, not-due-ages, set-keeps}
 
 -- ---- marks
@@ -95,7 +95,7 @@ module _ {A : Type 0} (p : A → Bool) where
   rank-named base [] d n h = absurd (not-suc-le-zero h)
   rank-named base (x ∷ xs) d n h = go (p x) refl n h (named p (suc base) xs d) (rank-named (suc base) xs d)
     where
-      go : (b : Bool) → p x ≡ b → (n : ℕ) → n < length (cond b (base ∷ indicesFrom p (suc base) xs) (indicesFrom p (suc base) xs)) → ((n : ℕ) → n < length (indicesFrom p (suc base) xs) → Rattle.scoresheet.proofs.Due.Named p (suc base) xs d (getD (indicesFrom p (suc base) xs) n 0)) → ((n : ℕ) → n < length (indicesFrom p (suc base) xs) → length (indicesFrom p (suc base) (take (getD (indicesFrom p (suc base) xs) n 0 - suc base) xs)) ≡ n) → length (indicesFrom p base (take (getD (cond b (base ∷ indicesFrom p (suc base) xs) (indicesFrom p (suc base) xs)) n 0 - base) (x ∷ xs))) ≡ n
+      go : (b : Bool) → p x ≡ b → (n : ℕ) → n < length (cond b (base ∷ indicesFrom p (suc base) xs) (indicesFrom p (suc base) xs)) → ((n : ℕ) → n < length (indicesFrom p (suc base) xs) → Named p (suc base) xs d (getD (indicesFrom p (suc base) xs) n 0)) → ((n : ℕ) → n < length (indicesFrom p (suc base) xs) → length (indicesFrom p (suc base) (take (getD (indicesFrom p (suc base) xs) n 0 - suc base) xs)) ≡ n) → length (indicesFrom p base (take (getD (cond b (base ∷ indicesFrom p (suc base) xs) (indicesFrom p (suc base) xs)) n 0 - base) (x ∷ xs))) ≡ n
       go true t zero h names rest = let e : base - base ≡ 0 = omega arith in rw e
       go true t (suc n) h names rest =
           let l = le-of-suc-le-suc h in
@@ -128,6 +128,7 @@ start-stays h P table j here w =
   where
     k : ℕ
     k = freeSlot (tableAt h P j table)
+
     Q : List (List ℕ) → Type 0
     Q t = Held (getD t k [])
 
@@ -205,20 +206,28 @@ module _ {l l′ : Lent} (a : Accepted l l′) (j : ℕ) (here : j < length (a .
     where
       n : ℕ
       n = ownerOf P j
+
       k : ℕ
       k = dueSlot i n
+
       in-list : n < length (dueSlots (l .table))
       in-list = due-entry (known a .choice) (w .owned)
+
       lies : k < length (l .table)
       lies = due-lies i n in-list
+
       due : slotDue (slotAt l k) ≡ true
       due = due-is-due i n in-list
+
       mine : at P n ≡ j
       mine = owner-has P j (w .owned)
+
       some : at P n ≡ none → ⊥
       some z = omega (arith, mine, known a .is-ready .few-reports)
+
       is-pair : getD settled k [] ≡ pairedSlot (l .sector) (getD (a .batch) (at P n) []) (slotAt l k)
       is-pair = settled-at i P k lies ∙ rw (rank-is i n in-list) (due-pairs (l .sector) (a .batch) P (slotAt l k) n due some)
+
       mark : at (getD settled k []) markAt ≡ held
       mark = rw is-pair (updated-held (l .sector) _ (slotAt l k))
 
@@ -232,8 +241,10 @@ module _ {l l′ : Lent} (a : Accepted l l′) (j : ℕ) (here : j < length (a .
     where
       k : ℕ
       k = freeSlot met
+
       lies : k < length (l .table)
       lies = omega (arith, w .room, length-at (reportsIn i) P j settled, settled-length i P)
+
       go : at (slotAt l k) markAt ≡ held → (b : Bool) → slotDue (slotAt l k) ≡ b → b ≡ true
       go m true d = refl
       go m false d =
