@@ -16,7 +16,7 @@ use Rattle.intake.specs.Refusals.{Input, dueSlots}
 use Rattle.scoresheet.specs.Cells.{tracksOf, reportsOf, sectorSheet}
 use Rattle.scoresheet.proofs.Due.{due-lies, due-is-due}
 use Rattle.walk.specs.Table.{dueRank, slotPrice, settledTable, slotPrices}
-use Rattle.walk.proofs.Loops.{outs-at}
+use Rattle.laws.proofs.Ranks.{outs-at}
 use Rattle.walk.proofs.Settled.{rankOf}
 use Rattle.fates.specs.Fates.{slotsOf, shownOf}
 use Rattle.fates.proofs.Answers.{length-fates, length-slots, length-shown}

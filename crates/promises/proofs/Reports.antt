@@ -27,7 +27,7 @@ use Rattle.walk.specs.Table.{pairedSlot, settledSlot, settledTable}
 use Rattle.walk.proofs.Settled.{rankOf, due-at-rank, settled-at}
 use Rattle.fates.specs.declared.Told.{Told}
 use Rattle.fates.specs.Fates.{paired, started, weak, full, noSlot, shownFrom, Handed, isFree, freeSlot, ownerOf, shownMark, slotOf, toldPaired, toldUnpaired, toldOf, afterReport, reportNumbers, fatesOf, slotsOf}
-use Rattle.fates.proofs.Loops.{outs-at}
+use Rattle.laws.proofs.Rounds.{told-at}
 use Rattle.fates.proofs.Telling.{fateOut, slotOut}
 use Rattle.fates.proofs.Starts.{tableAt}
 use Rattle.fates.proofs.Answers.{shown-at}
@@ -107,11 +107,11 @@ told-unpaired h P j table l = rw (le-ltb (ownerOf P j) (length P) l) (go (isWeak
 module _ (i : Input) (P : List ℕ) (j : ℕ) (here : j < reportsOf i) where
   fate-is : fateAt i P j ≡ toldOf (reportsIn i) P j (tableAt (reportsIn i) P j (settledTable i P)) .fate
   unfolding fatesIn fatesOf reportNumbers reportsOf
-  fate-is = outs-at (afterReport (reportsIn i) P) (fateOut (reportsIn i) P) (length (i .batch)) (λ k. k) (settledTable i P) j 0 here
+  fate-is = told-at (afterReport (reportsIn i) P) (fateOut (reportsIn i) P) (length (i .batch)) (λ k. k) (settledTable i P) j 0 here
 
   slot-is : slotAt i P j ≡ toldOf (reportsIn i) P j (tableAt (reportsIn i) P j (settledTable i P)) .slot
   unfolding slotsOf reportNumbers reportsOf
-  slot-is = outs-at (afterReport (reportsIn i) P) (slotOut (reportsIn i) P) (length (i .batch)) (λ k. k) (settledTable i P) j 0 here
+  slot-is = told-at (afterReport (reportsIn i) P) (slotOut (reportsIn i) P) (length (i .batch)) (λ k. k) (settledTable i P) j 0 here
 
   -- told paired: some place of the pairing names the report
   pub paired-when : ownerOf P j < length P → fateAt i P j ≡ paired

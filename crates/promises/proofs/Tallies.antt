@@ -11,7 +11,7 @@ use lib.Seq.{take-suc, take-length}
 use Rattle.laws.specs.Lists.{indicesFrom, afterAll, outs}
 use Rattle.laws.specs.Sums.{Sum}
 use Rattle.laws.proofs.Search.{Counted, counted-none, counted-more, counted-end}
-use Rattle.fates.proofs.Loops.{count-from}
+use Rattle.laws.proofs.Rounds.{count-from}
 
 -- how many of a list are of the kind
 module _ {A : Type 0} (p : A → Bool) where

@@ -1,0 +1,2 @@
+-- Sector calls, one after another.
+pub mod Calls
