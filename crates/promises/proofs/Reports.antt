@@ -22,7 +22,8 @@ use Rattle.settling.proofs.HandedOn.{updated-updates}
 use Rattle.matching.specs.Pairing.{none, Paired, at}
 use Rattle.intake.specs.Refusals.{Input, dueSlots}
 use Rattle.scoresheet.specs.Cells.{tracksOf, reportsOf}
-use Rattle.scoresheet.proofs.Due.{named, due-lies, due-is-due}
+use Rattle.scoresheet.proofs.Due.{due-lies, due-is-due}
+use Rattle.laws.proofs.Ranks.{named}
 use Rattle.walk.specs.Table.{pairedSlot, settledSlot, settledTable}
 use Rattle.walk.proofs.Settled.{rankOf, due-at-rank, settled-at}
 use Rattle.fates.specs.declared.Told.{Told}

@@ -19,7 +19,8 @@ use Rattle.settling.specs.Settle.{updatedOf, startedOf, agedOf}
 use Rattle.matching.specs.Pairing.{none}
 use Rattle.intake.specs.Refusals.{Input, dueSlots}
 use Rattle.scoresheet.specs.Cells.{tracksOf}
-use Rattle.scoresheet.proofs.Due.{Named, named, dueSlot, due-lies, due-is-due}
+use Rattle.scoresheet.proofs.Due.{dueSlot, due-lies, due-is-due}
+use Rattle.laws.proofs.Ranks.{Named, named}
 use Rattle.walk.specs.Table.{pairedSlot, agedSlot, settledSlot, settledTable}
 use Rattle.walk.proofs.Settled.{rankOf, settled-length, settled-at}
 use Rattle.fates.specs.Fates.{paired, started, Handed, isFree, freeSlot, ownerOf, slotOf, toldPaired, toldUnpaired, toldOf, afterUnpaired, afterReport, reportNumbers, startedTable, fatesOf, slotsOf}
