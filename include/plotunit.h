@@ -6,8 +6,8 @@
  * and no pointer may be null, even where its count is 0. No memory is allocated and no working room is lent. The unit keeps
  * no state: calls on different tables may run at the same time.
  *
- * Stack: about 60 KB a call. plot_serve_sector holds a sheet of 100 x 100 cells (40,000 bytes), the due list (808 bytes)
- * and a few lists of up to 200 numbers; the other calls need less.
+ * Stack: allow 60 KB. plot_serve_sector takes 45 KB on x86-64: a sheet of 100 x 100 cells (40,000 bytes), the due list (808
+ * bytes) and lists of up to 200 numbers. The other calls take under 4 KB.
  */
 #ifndef PLOTUNIT_H
 #define PLOTUNIT_H
