@@ -1,0 +1,2 @@
+-- Laws of the C border.
+pub mod Telling

@@ -1,0 +1,2 @@
+-- What the four calls tell C.
+pub mod Calls
