@@ -33,9 +33,6 @@ module _ {A : Type 0} where
   filled-length {whole} {out} {out₀} {rest} {n} w =
       rw (← w .done, length-append (take n out) rest, length-take-le n out (w .room))
 
-  pub filled-fits : {whole out out₀ rest : List A} {n : ℕ} {v : A} → Filled whole out out₀ n (v ∷ rest) → length whole ≤ length out₀ → n < length out
-  filled-fits {whole} {out} {out₀} {rest} {n} {v} w h = omega (arith, filled-length w)
-
 -- a list filled with what f gives of each element of another: the first i are
 pub record MapFilled {A B : Type 0} (f : A → B) (xs : List A) (out out₀ : List B) (i : ℕ) : Type 0 where
   pub upto : i ≤ length xs

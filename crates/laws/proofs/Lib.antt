@@ -11,3 +11,4 @@ pub mod Stores
 pub mod Parts
 pub mod Ranks
 pub mod Rounds
+pub mod Places

@@ -15,10 +15,6 @@ pub mag-size : (z : ℤ) → mag z ≤ natAbs z
 mag-size (pos n) = le-refl n
 mag-size (negsuc n) = omega arith
 
-pub size-mag : (z : ℤ) → natAbs z ≤ suc (mag z)
-size-mag (pos n) = omega arith
-size-mag (negsuc n) = omega arith
-
 pub neg-size : (z : ℤ) → natAbs (negℤ z) ≡ natAbs z
 neg-size (pos zero) = refl
 neg-size (pos (suc n)) = refl

@@ -34,14 +34,6 @@ pub and-same : (a a′ b b′ : Bool) → a ≡ a′ → (a ≡ true → b ≡ b
 and-same true a′ b b′ e h = rw (← e) (h refl)
 and-same false a′ b b′ e h = rw (← e)
 
-pub or-left : (a b : Bool) → a ≡ true → (a || b) ≡ true
-or-left true b e = refl
-or-left false b e = cc
-
-pub or-right : (a b : Bool) → b ≡ true → (a || b) ≡ true
-or-right true b e = refl
-or-right false b e = e
-
 -- a, or where a fails b
 pub or-else : (a b : Bool) → (a ≡ false → b ≡ true) → (a || b) ≡ true
 or-else true b h = refl
@@ -123,12 +115,6 @@ pub all-hold : (bs : List Bool) → Each bs → holds bs ≡ true
 unfolding holds
 all-hold [] w = refl
 all-hold (b ∷ bs) w = and-both (w .0) (all-hold bs (w .1))
-
-pub one-fails : (bs : List Bool) (k : ℕ) → getD bs k true ≡ false → holds bs ≡ false
-unfolding holds
-one-fails [] k e = e
-one-fails (b ∷ bs) zero e = rw e
-one-fails (b ∷ bs) (suc k) e = and-fails b (holds bs) (one-fails bs k e)
 
 -- the first that fails is past the last: they all hold; and the other way round
 pub none-fails : (bs : List Bool) → firstIndex not bs ≡ length bs → Each bs

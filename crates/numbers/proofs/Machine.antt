@@ -1,10 +1,10 @@
 -- What the machine reads back from a signed number's bits is the number; and its test of a sign. Assumes nothing.
-use mathlib.Core.Path.{_≡_, refl, sym, ap, subst}
+use mathlib.Core.Path.{_≡_, refl, sym, ap, subst, _∙_}
 use mathlib.Core.Bool.{true, false, not}
 use Prim.Native.Nat.{ℕ, zero, suc, _^_, _<_}
 use native.Mathlib.Nat.{lt-of-le-of-lt}
 use native.Mathlib.Omega.{arith}
-use borrow.Author.Tests.{le-ltb}
+use borrow.Author.Tests.{le-ltb, le-leb, lt-leb, ltb-true, ltb-false}
 use lib.Dec.{T, leb, leb·suc-zero, leb·suc-suc}
 use lib.IntN.{+ℤ-idl, ℤ, pos, negsuc, negℤ, natAbs, _-ℤ_}
 use lib.Signed.{nonNeg, ltZ, leZ}
@@ -43,12 +43,14 @@ not-negative (negsuc n) e = absurd (subst T e tt)
 pub from-zero : (z : ℤ) → pos 0 -ℤ z ≡ negℤ z
 from-zero z = +ℤ-idl (negℤ z)
 
--- -n ≤ z, of a negative z; and z ≤ n, of another: by z's size
-pub size-below : (z : ℤ) (n : ℕ) → not (nonNeg z) ≡ true → leZ (negℤ (pos n)) z ≡ leb (natAbs z) n
-size-below (pos a) n e = cc
-size-below (negsuc a) zero e = sym (leb·suc-zero a)
-size-below (negsuc a) (suc n) e = sym (leb·suc-suc a n)
+-- z < -n, or else z ≤ n: by z's size
+pub size-beyond : (z : ℤ) (n : ℕ) → ltZ z (negℤ (pos n)) ≡ true → false ≡ leb (natAbs z) n
+size-beyond (pos a) zero e = cc (e, le-ltb a 0 (omega arith))
+size-beyond (pos a) (suc n) e = cc
+size-beyond (negsuc a) zero e = sym (leb·suc-zero a)
+size-beyond (negsuc a) (suc n) e = sym (leb·suc-suc a n ∙ lt-leb a n (ltb-true n a e))
 
-pub size-above : (z : ℤ) (n : ℕ) → not (nonNeg z) ≡ false → leZ z (pos n) ≡ leb (natAbs z) n
+pub size-above : (z : ℤ) (n : ℕ) → ltZ z (negℤ (pos n)) ≡ false → leZ z (pos n) ≡ leb (natAbs z) n
 size-above (pos a) n e = refl
-size-above (negsuc a) n e = cc
+size-above (negsuc a) zero e = cc
+size-above (negsuc a) (suc n) e = sym (leb·suc-suc a n ∙ le-leb a n (ltb-false n a e))

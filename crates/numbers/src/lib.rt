@@ -68,12 +68,12 @@ impl Int {
     }
 
     // Whether the number lies in -most..most.
-    pub fn at_most(self, most: u32) -> bool
+    pub fn within(self, most: u32) -> bool
         ensures { λ r. ⌜ r ≡ leb (natAbs (self .v)) most ⌝ }
     {
         let x = self.v;
-        if x < 0 {
-            return 0 - (most as i64) <= x;
+        if x < 0 - (most as i64) {
+            return false;
         }
         x <= (most as i64)
     }

@@ -135,14 +135,16 @@ fn reached(s: u64, sigmas: u64, off: u64) -> bool
     square(2 * s - 1) * sigmas <= off
 }
 
-fn choose(first: bool, a: u64, b: u64) -> u64
-    ensures { λ r. ⌜ r ≡ cond first a b ⌝ }
+// A branch here would be guessed wrong half the time.
+fn raised(low: u64, width: u64, up: bool) -> u64
+    requires { ⌜ low + width < 2 ^ 32 ⌝ }
+    ensures { λ r. ⌜ r ≡ cond up (low + width) low ⌝ }
 {
-    if first { a } else { b }
+    low + width * (up as u64)
 }
 
 // Halves the interval of `width` numbers from `low` on until one is left. The width depends on no test, so that the compiler
-// can write out the nine turns without a branch. The sides of 01's rule, but for (2s-1)^2, are computed once.
+// can write out the nine turns. The sides of 01's rule, but for (2s-1)^2, are computed once.
 pub fn position_number(dr: u64, da: u64, range_sigma: u8, azimuth_sigma: u8) -> u32
     requires { ⌜ (dr ≤ rangeMost) × (da ≤ halfTurn) ⌝ }
     ensures { λ r. ⌜ r ≡ positionOf dr da «range_sigma» «azimuth_sigma» ⌝ }
@@ -153,9 +155,8 @@ pub fn position_number(dr: u64, da: u64, range_sigma: u8, azimuth_sigma: u8) -> 
     let mut width: u64 = POSITION_MOST + 1;
     while 1 < width {
         width = width / 2;
-        let middle = low + width;
-        let up = reached(middle, sigmas, off);
-        low = choose(up, middle, low);
+        let up = reached(low + width, sigmas, off);
+        low = raised(low, width, up);
     }
     low as u32
 }

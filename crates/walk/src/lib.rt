@@ -87,42 +87,101 @@ fn settled_slot(
     paired_slot(slot, report, sector)
 }
 
-// A slot's price: its track's, or 0 where it was not due.
-fn slot_price(slot: [u8; records::SLOT_BYTES], rank: usize, track_prices: &[u32]) -> u32
-    requires { ⌜ (slotDue slot ≡ true → rank < length (now «track_prices»)) ⌝ }
-    ensures { λ r. ⌜ r ≡ slotPrice (now («track_prices» .entry)) slot rank ⌝ }
+// A slot that is due stays for its service; any other ages.
+fn rested_slot(slot: [u8; records::SLOT_BYTES]) -> [u8; records::SLOT_BYTES]
+    ensures { λ r. ⌜ r ≡ restedSlot slot ⌝ }
 {
-    if !records::slot_due(slot) {
-        return 0;
+    if records::slot_due(slot) {
+        return slot;
     }
-    track_prices[rank]
+    age_slot(slot)
 }
 
-// Every slot in turn: its price, and what becomes of it.
+fn age_table(table: &mut [[u8; records::SLOT_BYTES]])
+    ensures { λ _. ⌜ now (table .exit) ≡ map restedSlot (now (table .entry)) ⌝ }
+{
+    let mut k: usize = 0;
+    while k < table.len() {
+        let slot = table[k];
+        let rested = rested_slot(slot);
+        table[k] = rested;
+        k += 1;
+    }
+}
+
+// The due slots in turn: what becomes of each.
+fn settle_due(
+    table: &mut [[u8; records::SLOT_BYTES]],
+    sector: u8,
+    batch: &[[u8; records::REPORT_BYTES]],
+    due: &[usize],
+    pairing: &[u32],
+)
+    requires { ⌜ DueSettles sector (now batch) (now pairing) (now due) (now table) ⌝ }
+    ensures { λ _. ⌜ Placed [] (now (due .entry)) (λ rank. settledSlot sector (now (batch .entry)) (now (pairing .entry)) (getD (now (table .entry)) (getD (now (due .entry)) rank 0) []) rank) (now (table .entry)) (now (table .exit)) (length (now (due .entry))) ⌝ }
+{
+    let mut rank: usize = 0;
+    while rank < due.len() {
+        let k = due[rank];
+        let slot = table[k];
+        let settled = settled_slot(slot, rank, batch, pairing, sector);
+        table[k] = settled;
+        rank += 1;
+    }
+}
+
+// A price per slot: nothing where no track is due.
+fn clear_prices(prices: &mut [u32])
+    ensures { λ _. ⌜ now (prices .exit) ≡ map noPrice (now (prices .entry)) ⌝ }
+{
+    let mut k: usize = 0;
+    while k < prices.len() {
+        prices[k] = 0;
+        k += 1;
+    }
+}
+
+fn price_due(due: &[usize], track_prices: &[u32], prices: &mut [u32])
+    requires { ⌜ DuePriced (now due) (now «track_prices») (now prices) ⌝ }
+    ensures { λ _. ⌜ Placed 0 (now (due .entry)) (at (now («track_prices» .entry))) (now (prices .entry)) (now (prices .exit)) (length (now (due .entry))) ⌝ }
+{
+    let mut rank: usize = 0;
+    while rank < due.len() {
+        let k = due[rank];
+        prices[k] = track_prices[rank];
+        rank += 1;
+    }
+}
+
+// A price per slot, those of the due ones in their places.
+fn price_slots(due: &[usize], track_prices: &[u32], prices: &mut [u32])
+    requires { ⌜ DuePriced (now due) (now «track_prices») (now prices) ⌝ }
+    ensures { λ _. ⌜ Placed 0 (now (due .entry)) (at (now («track_prices» .entry))) (map noPrice (now (prices .entry))) (now (prices .exit)) (length (now (due .entry))) ⌝ }
+{
+    clear_prices(prices);
+    price_due(due, track_prices, prices);
+}
+
+// Each slot's price, and what becomes of each slot.
 pub fn settle_table(
     table: &mut [[u8; records::SLOT_BYTES]],
     sector: u8,
     site: Site,
     batch: &[[u8; records::REPORT_BYTES]],
+    due: &[usize],
     pairing: &[u32],
     track_prices: &[u32],
     prices: &mut [u32],
 )
     requires { ⌜ Ready (input (now table) sector site (now batch)) ⌝ }
-    requires { ⌜ Settles (input (now table) sector site (now batch)) (now pairing) (now «track_prices») (now prices) ⌝ }
+    requires { ⌜ Settles (input (now table) sector site (now batch)) (now due) (now pairing) (now «track_prices») (now prices) ⌝ }
     ensures { λ _. ⌜ now (table .exit) ≡ settledTable (input (now (table .entry)) sector site (now (batch .entry))) (now (pairing .entry)) ⌝ }
     ensures { λ _. ⌜ now (prices .exit) ≡ slotPrices (input (now (table .entry)) sector site (now (batch .entry))) (now («track_prices» .entry)) ++ drop (length (now (table .entry))) (now (prices .entry)) ⌝ }
 {
-    let mut rank: usize = 0;
-    let mut k: usize = 0;
-    while k < table.len() {
-        let slot = table[k];
-        prices[k] = slot_price(slot, rank, track_prices);
-        let settled = settled_slot(slot, rank, batch, pairing, sector);
-        table[k] = settled;
-        rank += intake::due_one(slot);
-        k += 1;
-    }
+    let slots = table.len();
+    price_slots(due, track_prices, &mut prices[..slots]);
+    age_table(table);
+    settle_due(table, sector, batch, due, pairing);
 }
 
 // What one due track adds to the counts; number is its report's, or NONE.

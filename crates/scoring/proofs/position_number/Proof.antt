@@ -65,8 +65,8 @@ add-width c = search needs
 loop-holds : tie.Need-loop-holds Inv-loop μ-loop
 loop-holds c = among-all _ positionMost 9 refl
 
-add-middle : tie.Need-add-middle Inv-loop μ-loop
-add-middle c = search needs
+add-reached : tie.Need-add-reached Inv-loop μ-loop
+add-reached c = search needs
 
 reached-requires : tie.Need-reached-requires Inv-loop μ-loop
 reached-requires c κs =
@@ -75,15 +75,15 @@ reached-requires c κs =
     let h : m ≤ positionMost = omega arith in
     (omega arith, (h, rw (c .before .before .before .before .before .before .square .ensures, c .before .before .before .before .before .before .before .by-sigma .ensures) (sides-fit (s .dr) (s .da) (s .range-sigma) (s .azimuth-sigma) m (omega arith) (omega arith) (omega arith) (omega arith) h .0)))
 
-choose-requires : tie.Need-choose-requires Inv-loop μ-loop
-choose-requires c κs = search needs
+raised-requires : tie.Need-raised-requires Inv-loop μ-loop
+raised-requires c κs = search needs
 
 loop-less : tie.Need-loop-less Inv-loop μ-loop
 loop-less c = search needs
 
 loop-again : tie.Need-loop-again Inv-loop μ-loop
 loop-again c =
-    rw (c .choose .ensures)
+    rw (c .raised .ensures)
     (among-half _ positionMost (c .before .reached .result) (reaches-downward _ _ _ _ positionMost) (c .before .before .before .loop .inv) (c .before .before .loop-test .taken) (told (c .before)))
 
 cast-result : tie.Need-cast-result Inv-loop μ-loop
@@ -109,9 +109,9 @@ position-number-spec =
     mul-off
     add-width
     loop-holds
-    add-middle
+    add-reached
     reached-requires
-    choose-requires
+    raised-requires
     loop-less
     loop-again
     cast-result
