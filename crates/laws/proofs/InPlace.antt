@@ -59,3 +59,9 @@ module _ {A : Type 0} (f : A → A) where
 
   pub mapped-end : {now was : List A} {i : ℕ} → Mapped f now was i → length now ≤ i → now ≡ map f was
   mapped-end {now} {was} {i} m h = m .part ∙ all-mapped f was i (omega arith)
+
+-- an entry of a mapped list
+pub map-at : {A B : Type 0} (f : A → B) (xs : List A) (k : ℕ) (d : A) (e : B) → k < length xs → getD (map f xs) k e ≡ f (getD xs k d)
+map-at f [] k d e h = absurd (not-suc-le-zero h)
+map-at f (x ∷ xs) zero d e h = refl
+map-at f (x ∷ xs) (suc k) d e h = map-at f xs k d e (le-of-suc-le-suc h)

@@ -31,6 +31,9 @@ module _ {A : Type 0} (d : A) {places : List ℕ} {v : ℕ → A} where
     else = λ k f. getD-set-other now _ k x d (λ q. f n (omega arith) (sym q)) ∙ w .else k (λ r l. f r (omega arith));
   }
 
+  pub placed-end : {was now : List A} {n : ℕ} → Placed d places v was now n → length places ≤ n → Placed d places v was now (length places)
+  placed-end {was} {now} {n} w h = let e : n ≡ length places = omega (arith, w .upto) in rw e at w
+
 -- the places of a kind, counted from a base, are named in order
 module _ {A : Type 0} (p : A → Bool) where
   pub rising : (base : ℕ) (xs : List A) (d : A) (r q : ℕ) → r < q → q < length (indicesFrom p base xs) → getD (indicesFrom p base xs) r 0 < getD (indicesFrom p base xs) q 0

@@ -1,7 +1,7 @@
 -- A sector's sheet, as the pairing reads it: a cell a pair, each none or a score. Assumes nothing.
 use Prim.Native.Nat.{ℕ, zero, suc, _+_, _*_, _^_, _<_}
 use mathlib.Core.Path.{_≡_, refl, sym}
-use mathlib.Core.List.{List, [], _∷_, map}
+use mathlib.Core.List.{List, [], _∷_}
 use native.Mathlib.Nat.{suc-mul, zero-mul, le-of-suc-le-suc, not-suc-le-zero}
 use native.Mathlib.Omega.{arith}
 use lib.ListN.{length, getD, length-append, List·getD-append}
@@ -14,12 +14,8 @@ use Rattle.scoring.proofs.ScoreLaws.{score-below}
 use Rattle.matching.specs.Pairing.{none, scoreEnd, at, InRange}
 use Rattle.intake.specs.Refusals.{Input, dueSlots, Ready}
 use Rattle.scoresheet.specs.Cells.{cellOf, pairCell, rowOf, rowsOf, cellsOf, tracksOf, reportsOf, sectorSheet}
+use Rattle.laws.proofs.InPlace.{map-at}
 use Rattle.scoresheet.proofs.Rows.{row-length}
-
-map-at : {A : Type 0} (f : A → ℕ) (xs : List A) (k : ℕ) (d : A) → k < length xs → getD (map f xs) k 0 ≡ f (getD xs k d)
-map-at f [] k d h = absurd (not-suc-le-zero h)
-map-at f (x ∷ xs) zero d h = refl
-map-at f (x ∷ xs) (suc k) d h = map-at f xs k d (le-of-suc-le-suc h)
 
 rows-length : (i : Input) (ks : List ℕ) → length (rowsOf i ks) ≡ length ks * length (i .batch)
 unfolding rowsOf
@@ -38,7 +34,7 @@ rows-at i [] a b ha hb = absurd (not-suc-le-zero ha)
 rows-at i (k ∷ ks) zero b ha hb =
     let z : 0 * length (i .batch) + b ≡ b = rw zero-mul (omega arith) in
     rw (z, List·getD-append (rowOf (i .site) (i .batch) (getD (i .table) k [])) (rowsOf i ks) 0 b (rw (row-length (i .site) (i .batch) (getD (i .table) k [])) hb))
-    (map-at (pairCell (trackOf (getD (i .table) k [])) (i .site)) (i .batch) b [] hb)
+    (map-at (pairCell (trackOf (getD (i .table) k [])) (i .site)) (i .batch) b [] 0 hb)
 rows-at i (k ∷ ks) (suc a) b ha hb =
     let row : List ℕ = rowOf (i .site) (i .batch) (getD (i .table) k []) in
     let l : length (rowOf (i .site) (i .batch) (getD (i .table) k [])) ≡ length (i .batch) = row-length (i .site) (i .batch) (getD (i .table) k []) in

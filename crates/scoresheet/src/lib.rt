@@ -78,12 +78,13 @@ pub fn score_sheet(
     ensures { λ r. ⌜ r ≡ sheetedOf (input (now (table .entry)) sector site (now (batch .entry))) (now (sheet .entry)) ⌝ }
     ensures { λ _. ⌜ now (sheet .exit) ≡ sheetAfter (input (now (table .entry)) sector site (now (batch .entry))) (now (sheet .entry)) ⌝ }
 {
-    let number = intake::fault(table, sector, site, batch);
+    let mut due = intake::blank_due();
+    let taken = intake::take_in(table, sector, site, batch, &mut due);
+    let number = taken.number;
     if number != 0 {
         return Sheeted::Refused(number);
     }
-    let mut due = [0usize; intake::DUE_ROOM];
-    let tracks = intake::list_due(table, &mut due);
+    let tracks = taken.tracks;
     let reports = batch.len();
     if sheet.len() < tracks * reports {
         return Sheeted::Refused(NO_ROOM);

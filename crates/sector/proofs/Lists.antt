@@ -10,30 +10,29 @@ use Rattle.intake.specs.Refusals.{Input, dueSlots, mostDue, mostReports, Ready}
 use Rattle.scoresheet.specs.Cells.{tracksOf, reportsOf}
 use Rattle.sector.specs.Steps.{Pairable}
 
--- the first n entries of due are the due slots
-pub record DueListed (i : Input) (n : ℕ) (due : List ℕ) : Type 0 where
-  pub count : n ≡ tracksOf i
-  pub slots : take n due ≡ dueSlots (i .table)
-  pub room : n ≤ length due
-  pub few : n ≤ mostDue
-  pub cells : n * length (i .batch) ≤ mostDue * mostReports
+-- a list has room for what its first n entries are
+pub listed-room : (xs ys : List ℕ) {n : ℕ} → n ≡ length ys → take n xs ≡ ys → n ≤ length xs
+listed-room xs ys {n} c s = omega (arith, ap length s ∙ sym c, length-take n xs)
 
-pub due-listed : {i : Input} {n : ℕ} {due : List ℕ} → Ready i → n ≡ length (dueSlots (i .table)) → take n due ≡ dueSlots (i .table) → DueListed i n due
+-- the call's due list, and how large it and its sheet get
+pub record DueListed (i : Input) (due : List ℕ) : Type 0 where
+  pub slots : due ≡ dueSlots (i .table)
+  pub count : length due ≡ tracksOf i
+  pub few : length due ≤ mostDue
+  pub cells : length due * length (i .batch) ≤ mostDue * mostReports
+
+pub due-listed : {i : Input} {due : List ℕ} → Ready i → due ≡ dueSlots (i .table) → DueListed i due
 unfolding tracksOf
-due-listed {i} {n} {due} r c s = record {
-  count = c;
-  slots = s;
-  room = omega (arith, ap length s ∙ sym c, length-take n due);
-  few = omega (arith, c, r .few-due);
-  cells = mul-le-mul {n₂ = mostDue} (omega (arith, c, r .few-due)) (r .few-reports);
-}
+due-listed {i} {due} r s =
+    let few : length due ≤ mostDue = rw s (r .few-due) in
+    record { slots = s; count = ap length s; few = few; cells = mul-le-mul {n₂ = mostDue} few (r .few-reports) }
 
-pub pairable : {i : Input} {n : ℕ} {due : List ℕ} (sheet p u v : List ℕ) → DueListed i n due → length sheet ≡ mostDue * mostReports → length p ≡ mostDue → length u ≡ mostDue → length (i .batch) ≤ length v → Pairable i (take n due) (take (n * length (i .batch)) sheet) (take n p) (take n u) v
+pub pairable : {i : Input} {due : List ℕ} (sheet p u v : List ℕ) → DueListed i due → length sheet ≡ mostDue * mostReports → length p ≡ mostDue → length u ≡ mostDue → length (i .batch) ≤ length v → Pairable i due (take (length due * length (i .batch)) sheet) (take (length due) p) (take (length due) u) v
 unfolding reportsOf
-pairable {i} {n} sheet p u v d ls lp lu lv = record {
+pairable {i} {due} sheet p u v d ls lp lu lv = record {
   due-is = d .slots;
-  cell-each = length-take-le (n * length (i .batch)) sheet (omega (arith, d .cells)) ∙ ap (λ (k : ℕ). k * length (i .batch)) (d .count);
-  number-room = length-take-le n p (omega (arith, d .few)) ∙ d .count;
-  price-room = length-take-le n u (omega (arith, d .few)) ∙ d .count;
+  cell-each = length-take-le (length due * length (i .batch)) sheet (omega (arith, d .cells)) ∙ ap (λ (k : ℕ). k * length (i .batch)) (d .count);
+  number-room = length-take-le (length due) p (omega (arith, d .few)) ∙ d .count;
+  price-room = length-take-le (length due) u (omega (arith, d .few)) ∙ d .count;
   discount-room = lv;
 }

@@ -34,10 +34,11 @@ module _ (i : Input) (due sheet P u : List ℕ) (r : Ready i) (p : PairedUp i du
     valid = rw sheet-same (p .valid);
   }
 
-  pub settles : (prices : List ℕ) → length (i .table) ≤ length prices → Settles i P u prices
+  pub settles : (prices : List ℕ) → length (i .table) ≤ length prices → Settles i due P u prices
   unfolding tracksOf sectorSheet reportsOf
   settles prices h = record {
     names = record { places = le-of-eq (sym (p .number-each)); there = p .valid .there };
+    due-is = p .due-is;
     priced = le-of-eq (sym (p .price-each));
     room = h;
   }

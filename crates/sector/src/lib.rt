@@ -4,7 +4,7 @@ ghost use mathlib.Core.List.{_++_};
 ghost use Prim.Native.Nat.{_*_, _<_, _≤_};
 ghost use lib.ListN.{length, take, drop};
 ghost use Rattle.numbers.specs.Sectors.{nextSector};
-ghost use Rattle.intake.specs.Refusals.{input, mostDue, mostReports, Ready};
+ghost use Rattle.intake.specs.Refusals.{input, mostDue, mostReports, dueSlots, Ready};
 ghost use Rattle.sector.specs.Steps.{Pairable, PairedUp, PairedOff, Room};
 ghost use Rattle.sector.specs.Settled.{SettledAs};
 ghost use Rattle.sector.specs.Serve.{lent, rooms, allPass, tally, ServedWith, ServesSector};
@@ -103,7 +103,16 @@ fn settle(
     let reports = batch.len();
     let scores = score_sum(sheet, reports, pairing);
     let missed = walk::count_missed(table, sector, site, batch, due, pairing);
-    walk::settle_table(table, sector, site, batch, pairing, track_prices, prices);
+    walk::settle_table(
+        table,
+        sector,
+        site,
+        batch,
+        due,
+        pairing,
+        track_prices,
+        prices,
+    );
     fates::tell_reports(table, sector, batch, due, pairing, fates, slots, shown);
     count_all(fates, reports, missed, scores)
 }
@@ -198,18 +207,13 @@ fn blank_list() -> [u32; intake::MOST_DUE]
     [0; intake::MOST_DUE]
 }
 
-fn blank_due() -> [usize; intake::DUE_ROOM]
-    ensures { λ r. ⌜ mostDue < length r ⌝ }
-{
-    [0; intake::DUE_ROOM]
-}
-
-// A call that is refused by nothing.
+// A call that is refused by nothing, with its due list.
 fn serve(
     table: &mut [[u8; records::SLOT_BYTES]],
     sector: u8,
     site: Site,
     batch: &[[u8; records::REPORT_BYTES]],
+    due: &[usize],
     fates: &mut [u8],
     slots: &mut [u16],
     shown: &mut [u8],
@@ -217,13 +221,13 @@ fn serve(
     prices: &mut [u32],
 ) -> Counts
     requires { ⌜ Ready (input (now table) sector site (now batch)) ⌝ }
+    requires { ⌜ now due ≡ dueSlots (now table) ⌝ }
     requires { ⌜ Room (length (now table)) (length (now batch)) (length (now fates)) (length (now slots)) (length (now shown)) (length (now discounts)) (length (now prices)) ⌝ }
     ensures { λ r. ⌜ ServedWith (input (now (table .entry)) sector site (now (batch .entry)))
         (lent (now (table .entry)) sector (now (fates .entry)) (now (slots .entry)) (now (shown .entry)) (now (discounts .entry)) (now (prices .entry)))
         (lent (now (table .exit)) (nextSector sector) (now (fates .exit)) (now (slots .exit)) (now (shown .exit)) (now (discounts .exit)) (now (prices .exit))) r ⌝ }
 {
-    let mut due = blank_due();
-    let tracks = intake::list_due(table, &mut due);
+    let tracks = due.len();
     let cells = tracks * batch.len();
     let mut sheet = blank_sheet();
     let mut pairing = blank_list();
@@ -233,7 +237,7 @@ fn serve(
         sector,
         site,
         batch,
-        &due[..tracks],
+        due,
         &mut sheet[..cells],
         &mut pairing[..tracks],
         &mut track_prices[..tracks],
@@ -284,7 +288,9 @@ pub fn serve_sector(
         (lent (now (table .exit)) (now (sector .exit)) (now (fates .exit)) (now (slots .exit)) (now (shown .exit)) (now (discounts .exit)) (now (prices .exit))) r ⌝ }
 {
     let served = *sector;
-    let number = intake::fault(table, served, site, batch);
+    let mut due = intake::blank_due();
+    let taken = intake::take_in(table, served, site, batch, &mut due);
+    let number = taken.number;
     if number != 0 {
         return Served::Refused(number);
     }
@@ -299,11 +305,13 @@ pub fn serve_sector(
     ) {
         return Served::Refused(scoresheet::NO_ROOM);
     }
+    let tracks = taken.tracks;
     let counts = serve(
         table,
         served,
         site,
         batch,
+        &due[..tracks],
         fates,
         slots,
         shown,

@@ -26,7 +26,7 @@ use Rattle.settling.specs.Settle.{coastedOf, agedOf}
 use Rattle.settling.proofs.HandedOn.{updated-served, coasted-served, aged-well-formed}
 use Rattle.matching.specs.Pairing.{none}
 use Rattle.intake.specs.Refusals.{Input, dueSlots, Ready}
-use Rattle.walk.specs.Table.{freed, pairedSlot, missedSlot, agedSlot, dueRank, settledSlot, settledTable, keptOne, droppedOne, missedAt, missedSum, coastedCount, droppedCount}
+use Rattle.walk.specs.Table.{freed, pairedSlot, missedSlot, agedSlot, dueRank, settledSlot, slotPrice, settledTable, slotPrices, keptOne, droppedOne, missedAt, missedSum, coastedCount, droppedCount}
 use Rattle.walk.specs.Counting.{Names, SlotSettles}
 use Rattle.laws.proofs.Ranks.{outs-at, ranked}
 use Rattle.walk.proofs.Slots.{due-track, waits-on, missed-kept, missed-dropped}
@@ -37,7 +37,7 @@ unfolding settledTable
 settled-length i P = length-outs dueRank _ (i .table) 0
 
 -- counting on from s comes to s and the number of due slots
-ranks : (slots : List (List ℕ)) (base s : ℕ) → afterAll dueRank slots s ≡ s + length (indicesFrom slotDue base slots)
+pub ranks : (slots : List (List ℕ)) (base s : ℕ) → afterAll dueRank slots s ≡ s + length (indicesFrom slotDue base slots)
 unfolding afterAll dueRank indicesFrom
 ranks [] base s = omega arith
 ranks (x ∷ slots) base s = go (slotDue x) (ranks slots (suc base) (s + cond (slotDue x) 1 0)) refl
@@ -59,6 +59,15 @@ due-at-rank i k h d = let w = ranked slotDue 0 (i .table) k [] h d in (w .lies, 
 pub settled-at : (i : Input) (P : List ℕ) (k : ℕ) → k < length (i .table) → getD (settledTable i P) k [] ≡ settledSlot (i .sector) (i .batch) P (getD (i .table) k []) (rankOf (i .table) k)
 unfolding settledTable dueSlots
 settled-at i P k h = outs-at dueRank _ (i .table) 0 k [] [] h ∙ ap (settledSlot (i .sector) (i .batch) P (getD (i .table) k [])) (ranks (take k (i .table)) 0 0 ∙ omega arith)
+
+-- and priced at its rank
+pub prices-length : (i : Input) (prices : List ℕ) → length (slotPrices i prices) ≡ length (i .table)
+unfolding slotPrices
+prices-length i prices = length-outs dueRank _ (i .table) 0
+
+pub price-at : (i : Input) (prices : List ℕ) (k : ℕ) → k < length (i .table) → getD (slotPrices i prices) k 0 ≡ slotPrice prices (getD (i .table) k []) (rankOf (i .table) k)
+unfolding slotPrices dueSlots
+price-at i prices k h = outs-at dueRank _ (i .table) 0 k [] 0 h ∙ ap (slotPrice prices (getD (i .table) k [])) (ranks (take k (i .table)) 0 0 ∙ omega arith)
 
 -- ---- no slot is malformed for the next call
 

@@ -1,88 +1,120 @@
 -- The loop that settles the slots, and the loop that counts the missed tracks. Assumes nothing.
 use Prim.Native.Nat.{ℕ, _+_, _≤_, _<_}
-use mathlib.Core.Path.{_≡_, _∙_}
-use mathlib.Core.Bool.{true, cond}
-use mathlib.Core.List.{List, [], _++_, append-nil}
-use native.Mathlib.Nat.{le-refl}
+use mathlib.Core.Path.{_≡_, refl, sym, _∙_}
+use mathlib.Core.Bool.{Bool, true, false, cond}
+use mathlib.Core.List.{List, [], map}
 use native.Mathlib.Omega.{arith}
 use lib.Dec.{eqb}
-use lib.ListN.{length, getD, drop, set, drop-of-length-le}
-use Rattle.laws.specs.Lists.{outs}
-use Rattle.laws.proofs.Fold.{Answered, answered-none, answered-more, answered-end}
-use Rattle.laws.proofs.Search.{Counted, counted-none, counted-more, indices-hit}
+use lib.ListN.{length, getD, take, length-map}
+use lib.Seq.{length-take-le, ext-getD}
+use Rattle.laws.specs.Places.{Distinct, Placed}
+use Rattle.laws.proofs.InPlace.{map-at}
+use Rattle.laws.proofs.Places.{not-placed, indices-distinct}
 use Rattle.laws.proofs.Sums.{sum-none, sum-more, sum-done}
+use Rattle.laws.proofs.Tests.{clash}
 use Rattle.records.specs.Bytes.{at, trackOf, slotDue}
 use Rattle.settling.specs.declared.Unpaired.{Unpaired}
 use Rattle.settling.specs.Settle.{Settleable, coastedOf}
 use Rattle.settling.proofs.HandedOn.{settleable}
 use Rattle.matching.specs.Pairing.{none}
 use Rattle.intake.specs.Refusals.{Input, dueSlots, mostSlots, mostDue, Ready}
-use Rattle.scoresheet.proofs.Due.{due-lies, due-well-formed}
-use Rattle.walk.specs.Table.{dueRank, settledSlot, slotPrice, keptOne, droppedOne, missedAt, missedSum}
-use Rattle.laws.proofs.Ranks.{not-yet}
-use Rattle.walk.specs.Counting.{Settles, SlotSettles}
+use Rattle.scoresheet.proofs.Due.{dueSlot, due-lies, due-is-due, due-well-formed}
+use Rattle.walk.specs.Table.{restedSlot, settledSlot, slotPrice, noPrice, settledTable, slotPrices, keptOne, droppedOne, missedAt, missedSum}
+use Rattle.walk.specs.Counting.{Settles, SlotSettles, DueSettles, DuePriced}
+use Rattle.walk.proofs.Settled.{rankOf, due-at-rank, settled-length, settled-at, prices-length, price-at}
 
--- k slots are settled, and rank of them were due: the table is rewritten in place, the prices are filled in
-pub record Walked (sector : ℕ) (batch : List (List ℕ)) (P trackPrices : List ℕ) (table₀ table : List (List ℕ)) (prices₀ prices : List ℕ) (rank k : ℕ) : Type 0 where
-  pub settled : Answered dueRank (settledSlot sector batch P) table₀ 0 rank table table₀ k
-  pub priced : Answered dueRank (slotPrice trackPrices) table₀ 0 rank prices prices₀ k
-  pub counted : Counted slotDue table₀ rank k
+-- ---- the due slots settled one by one, the others aged
 
-module _ (sector : ℕ) (batch : List (List ℕ)) (P trackPrices : List ℕ) where
-  pub walked-none : (table : List (List ℕ)) (prices : List ℕ) → Walked sector batch P trackPrices table table prices prices 0 0
-  walked-none table prices = record { settled = answered-none _ _ table 0 table; priced = answered-none _ _ table 0 prices; counted = counted-none slotDue table }
-
-  pub walked-more : {table₀ table : List (List ℕ)} {prices₀ prices v : List ℕ} {rank k one price : ℕ} → Walked sector batch P trackPrices table₀ table prices₀ prices rank k → k < length table → length table₀ ≤ length prices₀ → one ≡ cond (slotDue (getD table k [])) 1 0 → price ≡ slotPrice trackPrices (getD table k []) rank → v ≡ settledSlot sector batch P (getD table k []) rank → Walked sector batch P trackPrices table₀ (set table k v) prices₀ (set prices k price) (rank + one) (k + 1)
-  unfolding dueRank
-  walked-more {table₀} {table} {prices₀} {prices} {v} {rank} {k} {one} {price} w h room e p s =
-      let same : getD table k [] ≡ getD table₀ k [] = not-yet [] (w .settled .so) in
-      let l : k < length table₀ = omega (arith, w .settled .so .same) in
-      let e₀ : one ≡ cond (slotDue (getD table₀ k [])) 1 0 = rw same at e in
-      let next : rank + one ≡ dueRank (getD table₀ k []) rank = rw e₀ in
-      record {
-        settled = answered-more _ _ [] (w .settled) l (omega arith) next (rw same at s);
-        priced = answered-more _ _ [] (w .priced) l room next (rw same at p);
-        counted = counted-more slotDue [] (w .counted) l e₀;
-      }
-
-  pub walked-end : {table₀ table : List (List ℕ)} {prices₀ prices : List ℕ} {rank k : ℕ} → Walked sector batch P trackPrices table₀ table prices₀ prices rank k → length table ≤ k → (table ≡ outs dueRank (settledSlot sector batch P) table₀ 0) × (prices ≡ outs dueRank (slotPrice trackPrices) table₀ 0 ++ drop (length table₀) prices₀)
-  walked-end {table₀} {table} {prices₀} {prices} {rank} {k} w h =
-      let l : length table₀ ≤ k = omega (arith, w .settled .so .same) in
-      let whole : table ≡ outs dueRank (settledSlot sector batch P) table₀ 0 ++ drop (length table₀) table₀ = answered-end _ _ (w .settled) l (w .counted .upto) in
-      let nothing : drop (length table₀) table₀ ≡ [] = drop-of-length-le table₀ (le-refl (length table₀)) in
-      (whole ∙ rw nothing (append-nil _), answered-end _ _ (w .priced) l (w .counted .upto))
-
--- a due slot's rank is a place of the due list
-rank-lies : {table : List (List ℕ)} {rank k : ℕ} → Counted slotDue table rank k → k < length table → slotDue (getD table k []) ≡ true → rank < length (dueSlots table)
+due-distinct : (i : Input) → Distinct (dueSlots (i .table)) (length (i .table))
 unfolding dueSlots
-rank-lies {table} {rank} {k} w h d = omega (arith, rw (indices-hit slotDue table k [] h d) at (w .ahead))
+due-distinct i = indices-distinct slotDue (i .table) []
 
--- what the next slot may count on
-pub record NextSlot (I : Input) (P trackPrices : List ℕ) (table : List (List ℕ)) (prices : List ℕ) (rank k : ℕ) : Type 0 where
-  pub settles : SlotSettles (I .sector) (I .batch) P (getD table k []) rank
-  pub priced : slotDue (getD table k []) ≡ true → rank < length trackPrices
-  pub room : k < length prices
-  pub few : rank ≤ k
-  pub early : k < mostSlots
+rested-due : (slot : List ℕ) → slotDue slot ≡ true → restedSlot slot ≡ slot
+unfolding restedSlot
+rested-due slot d = rw d
 
-pub next-slot : {I : Input} {P trackPrices : List ℕ} {table : List (List ℕ)} {prices₀ prices : List ℕ} {rank k : ℕ} → Ready I → Settles I P trackPrices prices₀ → Walked (I .sector) (I .batch) P trackPrices (I .table) table prices₀ prices rank k → k < length table → NextSlot I P trackPrices table prices rank k
-next-slot {I} {P} {trackPrices} {table} {prices₀} {prices} {rank} {k} r q w h =
-    let same : getD table k [] ≡ getD (I .table) k [] = not-yet [] (w .settled .so) in
-    let l : k < length (I .table) = omega (arith, w .settled .so .same) in
-    let place : slotDue (getD table k []) ≡ true → rank < length (dueSlots (I .table)) = λ d. rank-lies (w .counted) l (rw same at d) in
-    record {
-      settles = record {
+rested-at : (table : List (List ℕ)) (k : ℕ) → k < length table → getD (map restedSlot table) k [] ≡ restedSlot (getD table k [])
+rested-at table k h = map-at restedSlot table k [] [] h
+
+-- what the loop over the due slots counts on
+pub due-settles : {i : Input} {due P trackPrices prices : List ℕ} {table : List (List ℕ)} → Ready i → Settles i due P trackPrices prices → table ≡ map restedSlot (i .table) → DueSettles (i .sector) (i .batch) P due table
+due-settles {i} {due} {P} {trackPrices} {prices} {table} r q e = rw (e, q .due-is) (record {
+  places = rw (length-map (i .table) restedSlot) (due-distinct i);
+  settles = λ rank h.
+      let same : getD (map restedSlot (i .table)) (dueSlot i rank) [] ≡ getD (i .table) (dueSlot i rank) [] =
+      rested-at (i .table) _ (due-lies i rank h) ∙ rested-due _ (due-is-due i rank h) in
+      record {
         sector-in = r .sector-in;
-        slot-good = rw same (r .slots-good k l);
+        slot-good = rw same (r .slots-good _ (due-lies i rank h));
         reports-good = r .reports-good;
-        place = λ d. omega (arith, place d, q .names .places);
-        there = λ d n. q .names .there rank (place d) n;
+        place = λ d. omega (arith, q .names .places);
+        there = λ d n. q .names .there rank h n;
       };
-      priced = λ d. omega (arith, place d, q .priced);
-      room = omega (arith, w .priced .so .same, q .room);
-      few = w .counted .few;
-      early = omega (arith, r .few-slots);
+  few = rw (length-map (i .table) restedSlot) (r .few-slots);
+})
+
+-- the next due slot is as it was, and its step may go on
+pub record NextSettled (sector : ℕ) (batch : List (List ℕ)) (P due : List ℕ) (was now : List (List ℕ)) (rank : ℕ) : Type 0 where
+  pub within : getD due rank 0 < length now
+  pub early : getD due rank 0 < mostSlots
+  pub same : getD now (getD due rank 0) [] ≡ getD was (getD due rank 0) []
+  pub settles : SlotSettles sector batch P (getD now (getD due rank 0) []) rank
+
+pub next-settled : {sector : ℕ} {batch : List (List ℕ)} {P due : List ℕ} {was now : List (List ℕ)} {v : ℕ → List ℕ} {rank : ℕ} → DueSettles sector batch P due was → Placed [] due v was now rank → rank < length due → NextSettled sector batch P due was now rank
+next-settled {sector} {batch} {P} {due} {was} {now} {v} {rank} q w h =
+    let e : getD now (getD due rank 0) [] ≡ getD was (getD due rank 0) [] = not-placed [] w h (q .places) in
+    record {
+      within = omega (arith, q .places .within rank h, w .same);
+      early = omega (arith, q .places .within rank h, q .few);
+      same = e;
+      settles = rw e (q .settles rank h);
     }
+
+pub due-priced : {i : Input} {due P trackPrices prices : List ℕ} → Ready i → Settles i due P trackPrices prices → DuePriced due trackPrices (take (length (i .table)) prices)
+due-priced {i} {due} {P} {trackPrices} {prices} r q =
+    let l : length (take (length (i .table)) prices) ≡ length (i .table) = length-take-le _ prices (q .room) in
+    rw (q .due-is) (record { places = rw l (due-distinct i); priced = q .priced; few = rw l (r .few-slots) })
+
+-- prices that are cleared have as much room
+pub still-priced : {due trackPrices prices cleared : List ℕ} → cleared ≡ map noPrice prices → DuePriced due trackPrices prices → DuePriced due trackPrices cleared
+still-priced {due} {trackPrices} {prices} {cleared} e w =
+    let l : length cleared ≡ length prices = rw e (length-map prices noPrice) in
+    record { places = rw l (w .places); priced = w .priced; few = rw l (w .few) }
+
+-- a slot that no place of the due list names is not due
+module _ (i : Input) where
+  not-named : (k : ℕ) → slotDue (getD (i .table) k []) ≡ false → (rank : ℕ) → rank < length (dueSlots (i .table)) → dueSlot i rank ≡ k → ⊥
+  not-named k f rank h e = clash (rw e at (due-is-due i rank h)) f
+
+  -- each slot is settled at its rank, or aged
+  pub all-settled : (P : List ℕ) {table : List (List ℕ)} → Placed [] (dueSlots (i .table)) (λ rank. settledSlot (i .sector) (i .batch) P (getD (map restedSlot (i .table)) (dueSlot i rank) []) rank) (map restedSlot (i .table)) table (length (dueSlots (i .table))) → table ≡ settledTable i P
+  unfolding settledSlot restedSlot
+  all-settled P {table} w =
+      let l : length table ≡ length (i .table) = w .same ∙ length-map (i .table) restedSlot in
+      ext-getD [] table (settledTable i P) (l ∙ sym (settled-length i P)) (λ k h. at-slot k (omega arith) ∙ sym (settled-at i P k (omega arith)))
+    where
+      at-slot : (k : ℕ) → k < length (i .table) → getD table k [] ≡ settledSlot (i .sector) (i .batch) P (getD (i .table) k []) (rankOf (i .table) k)
+      at-slot k h = go (slotDue (getD (i .table) k [])) refl
+        where
+          go : (b : Bool) → slotDue (getD (i .table) k []) ≡ b → getD table k [] ≡ settledSlot (i .sector) (i .batch) P (getD (i .table) k []) (rankOf (i .table) k)
+          go true d =
+              let r = due-at-rank i k h d in
+              rw (r .1, rested-at (i .table) k h, rested-due _ d) at (w .there (rankOf (i .table) k) (r .0))
+          go false f = w .else k (not-named k f) ∙ rested-at (i .table) k h ∙ rw (f)
+
+  -- each slot has its track's price, or none
+  pub all-priced : (trackPrices blank : List ℕ) {prices : List ℕ} → length blank ≡ length (i .table) → Placed 0 (dueSlots (i .table)) (at trackPrices) (map noPrice blank) prices (length (dueSlots (i .table))) → prices ≡ slotPrices i trackPrices
+  unfolding slotPrice
+  all-priced trackPrices blank {prices} e w =
+      let l : length prices ≡ length (i .table) = w .same ∙ length-map blank noPrice ∙ e in
+      ext-getD 0 prices (slotPrices i trackPrices) (l ∙ sym (prices-length i trackPrices)) (λ k h. at-slot k (omega arith) ∙ sym (price-at i trackPrices k (omega arith)))
+    where
+      at-slot : (k : ℕ) → k < length (i .table) → getD prices k 0 ≡ slotPrice trackPrices (getD (i .table) k []) (rankOf (i .table) k)
+      at-slot k h = go (slotDue (getD (i .table) k [])) refl
+        where
+          go : (b : Bool) → slotDue (getD (i .table) k []) ≡ b → getD prices k 0 ≡ slotPrice trackPrices (getD (i .table) k []) (rankOf (i .table) k)
+          go true d = let r = due-at-rank i k h d in rw d (rw (r .1) at (w .there (rankOf (i .table) k) (r .0)))
+          go false f = w .else k (not-named k f) ∙ map-at noPrice blank k 0 0 (omega arith) ∙ rw f
 
 -- ---- the loop over the due list: i of its tracks are looked at
 

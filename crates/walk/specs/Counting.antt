@@ -8,16 +8,18 @@ use Rattle.numbers.specs.Scales.{sectors}
 use Rattle.records.specs.Fields.{trackFields, reportFields, badReportField}
 use Rattle.records.specs.Bytes.{at, reportOf, badSlotField, slotDue}
 use Rattle.matching.specs.Pairing.{none}
-use Rattle.intake.specs.Refusals.{Input, dueSlots}
+use Rattle.intake.specs.Refusals.{Input, mostSlots, dueSlots}
+use Rattle.laws.specs.Places.{Distinct}
 
 -- the pairing names, for each due track, a report that is there or none
 pub record Names (i : Input) (P : List ℕ) : Type 0 where
   pub places : length (dueSlots (i .table)) ≤ length P
   pub there : (rank : ℕ) → rank < length (dueSlots (i .table)) → (at P rank ≡ none → ⊥) → at P rank < length (i .batch)
 
--- with it a price for each due track, and room for a price a slot
-pub record Settles (i : Input) (P trackPrices prices : List ℕ) : Type 0 where
+-- with it the due list, a price for each due track, and room for a price a slot
+pub record Settles (i : Input) (due P trackPrices prices : List ℕ) : Type 0 where
   pub names : Names i P
+  pub due-is : due ≡ dueSlots (i .table)
   pub priced : length (dueSlots (i .table)) ≤ length trackPrices
   pub room : length (i .table) ≤ length prices
 
@@ -28,3 +30,14 @@ pub record SlotSettles (sector : ℕ) (batch : List (List ℕ)) (P slot : List �
   pub reports-good : (j : ℕ) → j < length batch → badReportField (reportOf (getD batch j [])) ≡ reportFields
   pub place : slotDue slot ≡ true → rank < length P
   pub there : slotDue slot ≡ true → (at P rank ≡ none → ⊥) → at P rank < length batch
+
+-- and the loop over the due list
+pub record DueSettles (sector : ℕ) (batch : List (List ℕ)) (P due : List ℕ) (table : List (List ℕ)) : Type 0 where
+  pub places : Distinct due (length table)
+  pub settles : (rank : ℕ) → rank < length due → SlotSettles sector batch P (getD table (getD due rank 0) []) rank
+  pub few : length table ≤ mostSlots
+
+pub record DuePriced (due trackPrices prices : List ℕ) : Type 0 where
+  pub places : Distinct due (length prices)
+  pub priced : length due ≤ length trackPrices
+  pub few : length prices ≤ mostSlots

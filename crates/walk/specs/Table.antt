@@ -34,6 +34,10 @@ missedSlot sector slot = unpairedBytes (coastedOf (trackOf slot) sector)
 unfoldable pub agedSlot : List ℕ → List ℕ
 agedSlot slot = cond (eqb (at slot markAt) held) (bytesOf (agedOf (trackOf slot))) slot
 
+-- a due slot stays for its service; any other ages
+unfoldable pub restedSlot : List ℕ → List ℕ
+restedSlot slot = cond (slotDue slot) slot (agedSlot slot)
+
 -- the due tracks are counted in slot order: the next one's place in the pairing
 unfoldable pub dueRank : List ℕ → ℕ → ℕ
 dueRank slot rank = rank + cond (slotDue slot) 1 0
@@ -48,6 +52,9 @@ settledSlot sector batch P slot rank =
 -- a price per slot, 0 where not due at entry
 unfoldable pub slotPrice : List ℕ → List ℕ → ℕ → ℕ
 slotPrice prices slot rank = cond (slotDue slot) (at prices rank) 0
+
+abbrev pub noPrice : ℕ → ℕ
+noPrice price = 0
 
 unfoldable pub settledTable : Input → List ℕ → List (List ℕ)
 settledTable i P = outs dueRank (settledSlot (i .sector) (i .batch) P) (i .table) 0

@@ -1,19 +1,20 @@
 // The table after pairing: each slot settled or aged, with its price.
 ghost use mathlib.Core.Path.{_≡_};
 ghost use mathlib.Core.Bool.{true, false, cond};
-ghost use mathlib.Core.List.{_++_};
+ghost use mathlib.Core.List.{[], _++_, map};
 ghost use Prim.Native.Nat.{_≤_, _<_};
 ghost use lib.Dec.{eqb};
-ghost use lib.ListN.{length, drop};
+ghost use lib.ListN.{length, getD, drop};
 ghost use Rattle.numbers.specs.Scales.{sectors};
 ghost use Rattle.records.specs.Fields.{WellFormed, Sound};
-ghost use Rattle.records.specs.Bytes.{trackOf, reportOf, slotDue};
+ghost use Rattle.records.specs.Bytes.{at, trackOf, reportOf, slotDue};
 ghost use Rattle.settling.specs.Settle.{Settleable, coastedOf};
 ghost use Rattle.matching.specs.Pairing.{none};
 ghost use Rattle.intake.specs.Refusals.{input, dueSlots, Ready};
-ghost use Rattle.walk.specs.Table.{agedSlot, missedSlot, pairedSlot, settledSlot, slotPrice, settledTable, slotPrices};
+ghost use Rattle.laws.specs.Places.{Placed};
+ghost use Rattle.walk.specs.Table.{agedSlot, missedSlot, pairedSlot, restedSlot, settledSlot, noPrice, settledTable, slotPrices};
 ghost use Rattle.walk.specs.Table.{keptOne, droppedOne, coastedCount, droppedCount};
-ghost use Rattle.walk.specs.Counting.{Settles, SlotSettles};
+ghost use Rattle.walk.specs.Counting.{Settles, SlotSettles, DueSettles, DuePriced};
 use records::Site;
 use settling::Unpaired;
 

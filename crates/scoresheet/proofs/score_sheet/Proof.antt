@@ -1,5 +1,4 @@
 use Rattle.scoresheet.proofs.Answers.{by-fault, Listed, listed, few-cells, rows-ready, too-short, served}
-use Rattle.intake.proofs.Readiness.{ready}
 use Rattle.intake.specs.Refusals.{Input, input}
 use lib.Seq.{length-take-le}
 use native.Mathlib.Omega.{arith}
@@ -9,29 +8,29 @@ use Rattle.scoresheet.proofs.score_sheet.Statement.{statement}
 use Rattle.scoresheet.proofs.score_sheet.Tie as tie
 
 -- what the call is handed
-abbrev handed : tie.After-due2 → Input
+abbrev handed : tie.Else1 → Input
 handed c =
-    let b = c .before .before .before .before .before .before in
-    input (b .args .table .now) (b .args .sector) (b .args .site) (b .args .batch .now)
+    let s = c .before .before .before .before .before .before .args in
+    input (s .table .now) (s .sector) (s .site) (s .batch .now)
 
 -- nothing of 1 to 8 applies, and the due slots are listed
-counts : (c : tie.After-due2) → Listed (handed c) (c .before .list-due .result) (c .before .list-due .last .1 .0)
+counts : (c : tie.Else1) → Listed (handed c) (c .before .before .take-in .result .tracks) (c .before .before .take-in .last .1 .1 .1 .1 .0)
 counts c =
-    listed (sym (c .before .before .before .before .fault .ensures) ∙ c .before .before .before .if1 .left)
-    (c .before .list-due .ensures .0)
-    (c .before .list-due .ensures .1)
+    listed (sym (c .before .before .take-in .ensures .0) ∙ c .if1 .left)
+    (c .before .before .take-in .ensures .1 (c .if1 .left) .0)
+    (c .before .before .take-in .ensures .1 (c .if1 .left) .1)
 
-fault-requires : tie.Need-fault-requires
-fault-requires c κs = search needs
+blank-due-requires : tie.Need-blank-due-requires
+blank-due-requires c κs = search needs
+
+slice-aggregate-take-in : tie.Need-slice-aggregate-take-in
+slice-aggregate-take-in c = search needs
+
+take-in-requires : tie.Need-take-in-requires
+take-in-requires c κs = search needs
 
 returns : tie.Need-returns
-returns c = by-fault _ _ _ (c .before .fault .ensures) (c .if1 .taken)
-
-slice-aggregate-list-due : tie.Need-slice-aggregate-list-due
-slice-aggregate-list-due c = search needs
-
-list-due-requires : tie.Need-list-due-requires
-list-due-requires c κs = omega (arith, ready _ (sym (c .before .before .fault .ensures) ∙ c .before .if1 .left) .few-due)
+returns c = by-fault _ _ _ (c .before .before .take-in .ensures .0) (c .if1 .taken)
 
 mul-if2 : tie.Need-mul-if2
 mul-if2 c = omega (arith, few-cells (counts c))
@@ -58,10 +57,10 @@ pub score-sheet-spec : {M : Type 1} → statement M
 score-sheet-spec =
     tie.close
     (tie.spec
-    fault-requires
+    blank-due-requires
+    slice-aggregate-take-in
+    take-in-requires
     returns
-    slice-aggregate-list-due
-    list-due-requires
     mul-if2
     returns-2
     array-share-prefix-due

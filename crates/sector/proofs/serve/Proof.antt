@@ -1,22 +1,13 @@
-use borrow.Author.Needs.{needs}
-use mathlib.Core.Path.{sym}
 use native.Mathlib.Omega.{arith}
+use mathlib.Core.Path.{sym}
 use lib.Seq.{length-take-le}
 use Rattle.sector.proofs.Lists.{due-listed, pairable}
+use borrow.Author.Needs.{needs}
 use Rattle.sector.proofs.serve.Statement.{statement}
 use Rattle.sector.proofs.serve.Tie as tie
 
-blank-due-requires : tie.Need-blank-due-requires
-blank-due-requires c κs = search needs
-
-slice-aggregate-list-due : tie.Need-slice-aggregate-list-due
-slice-aggregate-list-due c = search needs
-
-list-due-requires : tie.Need-list-due-requires
-list-due-requires c κs = search needs
-
 mul-cells : tie.Need-mul-cells
-mul-cells c = omega (arith, due-listed (c .before .before .before .before .before .before .before .before .before .before .pre .0) (c .before .list-due .ensures .0) (c .before .list-due .ensures .1) .cells)
+mul-cells c = omega (arith, due-listed (c .before .before .before .before .before .before .pre .0) (c .before .before .before .before .before .before .pre .1 .0) .cells)
 
 blank-sheet-requires : tie.Need-blank-sheet-requires
 blank-sheet-requires c κs = search needs
@@ -27,32 +18,28 @@ blank-list-requires c κs = search needs
 blank-list-requires-2 : tie.Need-blank-list-requires-2
 blank-list-requires-2 c κs = search needs
 
-array-share-prefix-due : tie.Need-array-share-prefix-due
-array-share-prefix-due c = search needs
+array-borrow-prefix-sheet : tie.Need-array-borrow-prefix-sheet
+array-borrow-prefix-sheet c = omega (arith, due-listed (c .before .before .before .before .before .before .before .before .before .before .pre .0) (c .before .before .before .before .before .before .before .before .before .before .pre .1 .0) .cells, c .before .before .before .blank-sheet .ensures)
 
 slice-aggregate-serve-due : tie.Need-slice-aggregate-serve-due
-slice-aggregate-serve-due c = sym (length-take-le _ _ (due-listed (c .before .before .before .before .before .before .before .before .before .before .before .before .before .before .before .pre .0) (c .before .before .before .before .before .before .list-due .ensures .0) (c .before .before .before .before .before .before .list-due .ensures .1) .room))
-
-array-borrow-prefix-sheet : tie.Need-array-borrow-prefix-sheet
-array-borrow-prefix-sheet c = omega (arith, due-listed (c .before .before .before .before .before .before .before .before .before .before .before .before .before .before .before .pre .0) (c .before .before .before .before .before .before .list-due .ensures .0) (c .before .before .before .before .before .before .list-due .ensures .1) .cells, c .before .before .before .before .blank-sheet .ensures)
-
-slice-aggregate-serve-due-2 : tie.Need-slice-aggregate-serve-due-2
-slice-aggregate-serve-due-2 c = sym (length-take-le _ _ (omega (arith, due-listed (c .before .before .before .before .before .before .before .before .before .before .before .before .before .before .before .before .pre .0) (c .before .before .before .before .before .before .before .list-due .ensures .0) (c .before .before .before .before .before .before .before .list-due .ensures .1) .cells, c .before .before .before .before .before .blank-sheet .ensures)))
+slice-aggregate-serve-due c = sym (length-take-le _ _ (omega (arith, due-listed (c .before .before .before .before .before .before .before .before .before .before .before .pre .0) (c .before .before .before .before .before .before .before .before .before .before .before .pre .1 .0) .cells, c .before .before .before .before .blank-sheet .ensures)))
 
 array-borrow-prefix-pairing : tie.Need-array-borrow-prefix-pairing
-array-borrow-prefix-pairing c = search needs
+array-borrow-prefix-pairing c = omega (arith, due-listed (c .before .before .before .before .before .before .before .before .before .before .before .pre .0) (c .before .before .before .before .before .before .before .before .before .before .before .pre .1 .0) .few, c .before .before .before .blank-list .ensures)
 
-slice-aggregate-serve-due-3 : tie.Need-slice-aggregate-serve-due-3
-slice-aggregate-serve-due-3 c = sym (length-take-le _ _ (omega (arith, due-listed (c .before .before .before .before .before .before .before .before .before .before .before .before .before .before .before .before .before .pre .0) (c .before .before .before .before .before .before .before .before .list-due .ensures .0) (c .before .before .before .before .before .before .before .before .list-due .ensures .1) .few, c .before .before .before .before .before .blank-list .ensures)))
+slice-aggregate-serve-due-2 : tie.Need-slice-aggregate-serve-due-2
+slice-aggregate-serve-due-2 c = sym (length-take-le _ _ (omega (arith, due-listed (c .before .before .before .before .before .before .before .before .before .before .before .before .pre .0) (c .before .before .before .before .before .before .before .before .before .before .before .before .pre .1 .0) .few, c .before .before .before .before .blank-list .ensures)))
 
 array-borrow-prefix-track-prices : tie.Need-array-borrow-prefix-track-prices
-array-borrow-prefix-track-prices c = search needs
+array-borrow-prefix-track-prices c = omega (arith, due-listed (c .before .before .before .before .before .before .before .before .before .before .before .before .pre .0) (c .before .before .before .before .before .before .before .before .before .before .before .before .pre .1 .0) .few, c .before .before .before .blank-list2 .ensures)
 
-slice-aggregate-serve-due-4 : tie.Need-slice-aggregate-serve-due-4
-slice-aggregate-serve-due-4 c = sym (length-take-le _ _ (omega (arith, due-listed (c .before .before .before .before .before .before .before .before .before .before .before .before .before .before .before .before .before .before .pre .0) (c .before .before .before .before .before .before .before .before .before .list-due .ensures .0) (c .before .before .before .before .before .before .before .before .before .list-due .ensures .1) .few, c .before .before .before .before .before .blank-list2 .ensures)))
+slice-aggregate-serve-due-3 : tie.Need-slice-aggregate-serve-due-3
+slice-aggregate-serve-due-3 c = sym (length-take-le _ _ (omega (arith, due-listed (c .before .before .before .before .before .before .before .before .before .before .before .before .before .pre .0) (c .before .before .before .before .before .before .before .before .before .before .before .before .before .pre .1 .0) .few, c .before .before .before .before .blank-list2 .ensures)))
 
 serve-due-requires : tie.Need-serve-due-requires
-serve-due-requires c κs = (c .before .before .before .before .before .before .before .before .before .before .before .before .before .before .before .before .before .before .before .before .before .before .before .pre .0, (pairable _ _ _ _ (due-listed (c .before .before .before .before .before .before .before .before .before .before .before .before .before .before .before .before .before .before .before .before .before .before .before .pre .0) (c .before .before .before .before .before .before .before .before .before .before .before .before .before .before .list-due .ensures .0) (c .before .before .before .before .before .before .before .before .before .before .before .before .before .before .list-due .ensures .1)) (c .before .before .before .before .before .before .before .before .before .before .before .before .blank-sheet .ensures) (c .before .before .before .before .before .before .before .before .before .before .before .blank-list .ensures) (c .before .before .before .before .before .before .before .before .before .before .blank-list2 .ensures) (c .before .before .before .before .before .before .before .before .before .before .before .before .before .before .before .before .before .before .before .before .before .before .before .pre .1 .for-discounts), c .before .before .before .before .before .before .before .before .before .before .before .before .before .before .before .before .before .before .before .before .before .before .before .pre .1))
+serve-due-requires c κs =
+    let s = c .before .before .before .before .before .before .before .before .before .before .before .before .before .before .before .before .before .before in
+    (s .pre .0, (pairable _ _ _ _ (due-listed (s .pre .0) (s .pre .1 .0)) (c .before .before .before .before .before .before .before .before .before .before .before .blank-sheet .ensures) (c .before .before .before .before .before .before .before .before .before .before .blank-list .ensures) (c .before .before .before .before .before .before .before .before .before .blank-list2 .ensures) (s .pre .1 .1 .for-discounts), s .pre .1 .1))
 
 same-length : tie.Need-same-length
 same-length c = search needs
@@ -73,27 +60,22 @@ same-length-6 : tie.Need-same-length-6
 same-length-6 c = search needs
 
 returns : tie.Need-returns
-returns c = c .before .before .before .before .before .before .before .before .before .before .before .before .before .before .serve-due .ensures
+returns c = search needs
 
 pub serve-spec : {M : Type 1} → statement M
 serve-spec =
     tie.close
     (tie.spec
-    blank-due-requires
-    slice-aggregate-list-due
-    list-due-requires
     mul-cells
     blank-sheet-requires
     blank-list-requires
     blank-list-requires-2
-    array-share-prefix-due
-    slice-aggregate-serve-due
     array-borrow-prefix-sheet
-    slice-aggregate-serve-due-2
+    slice-aggregate-serve-due
     array-borrow-prefix-pairing
-    slice-aggregate-serve-due-3
+    slice-aggregate-serve-due-2
     array-borrow-prefix-track-prices
-    slice-aggregate-serve-due-4
+    slice-aggregate-serve-due-3
     serve-due-requires
     same-length
     same-length-2

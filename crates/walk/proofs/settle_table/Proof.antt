@@ -1,103 +1,52 @@
-use Rattle.walk.proofs.Walks.{Walked, walked-none, walked-more, walked-end, next-slot}
-use Rattle.walk.specs.Table.{settledTable, slotPrices}
-use lib.ListN.{length}
-use Prim.Native.Nat.{_-_}
-use native.Mathlib.Omega.{arith}
+use Prim.Native.Nat.{ℕ}
+use mathlib.Core.List.{List, _++_}
+use lib.ListN.{length, take, drop}
+use mathlib.Core.Path.{sym, ap}
+use Rattle.walk.proofs.Walks.{due-settles, due-priced, all-settled, all-priced}
+use lib.Seq.{length-take-le}
 use borrow.Author.Needs.{needs}
 use Rattle.walk.proofs.settle_table.Statement.{statement}
 use Rattle.walk.proofs.settle_table.Tie as tie
 
-abbrev Inv-loop : tie.InvT-loop
-Inv-loop table₀ sector batch pairing track-prices prices₀ rank₀ k₀ table prices rank k = Walked sector batch pairing track-prices table₀ table prices₀ prices rank k
+slice-relend-prefix-price-slots : tie.Need-slice-relend-prefix-price-slots
+slice-relend-prefix-price-slots c = search needs
 
-abbrev μ-loop : tie.MeasureT-loop
-μ-loop table₀ sector batch pairing track-prices prices₀ rank₀ k₀ table prices rank k = length table₀ - k
+slice-aggregate-price-slots : tie.Need-slice-aggregate-price-slots
+slice-aggregate-price-slots c = sym (length-take-le _ _ (c .before .before .before .before .before .pre .1 .room))
 
-loop-holds : tie.Need-loop-holds Inv-loop μ-loop
-loop-holds c = walked-none _ _ _ _ _ _
+price-slots-requires : tie.Need-price-slots-requires
+price-slots-requires c κs = due-priced (c .before .before .before .before .before .pre .0) (c .before .before .before .before .before .pre .1)
 
-mul-slot : tie.Need-mul-slot Inv-loop μ-loop
-mul-slot c = search needs
+age-table-requires : tie.Need-age-table-requires
+age-table-requires c κs = search needs
 
-slice-copy-out-slot : tie.Need-slice-copy-out-slot Inv-loop μ-loop
-slice-copy-out-slot c = search needs
+settle-due-requires : tie.Need-settle-due-requires
+settle-due-requires c κs =
+    let s = c .before .before .before .before .before .before .before .before .before .before .before .before in
+    due-settles (s .pre .0) (s .pre .1) (c .before .before .age-table .ensures)
 
-slot-price-requires : tie.Need-slot-price-requires Inv-loop μ-loop
-slot-price-requires c κs =
-    let s = c .before .before .before .before .before .before in
-    next-slot (s .pre .0) (s .pre .1) (c .before .before .loop .inv) (c .before .loop-test .taken) .priced
+same-length : tie.Need-same-length
+same-length c = search needs
 
-mul-prices : tie.Need-mul-prices Inv-loop μ-loop
-mul-prices c =
-    let s = c .before .before .before .before .before .before .before in
-    omega (arith, next-slot (s .pre .0) (s .pre .1) (c .before .before .before .loop .inv) (c .before .before .loop-test .taken) .early)
+same-length-2 : tie.Need-same-length-2
+same-length-2 c = search needs
 
-slice-write-prices : tie.Need-slice-write-prices Inv-loop μ-loop
-slice-write-prices c =
-    let s = c .before .before .before .before .before .before .before in
-    next-slot (s .pre .0) (s .pre .1) (c .before .before .before .loop .inv) (c .before .before .loop-test .taken) .room
-
-settled-slot-requires : tie.Need-settled-slot-requires Inv-loop μ-loop
-settled-slot-requires c κs =
-    let s = c .before .before .before .before .before .before .before in
-    next-slot (s .pre .0) (s .pre .1) (c .before .before .before .loop .inv) (c .before .before .loop-test .taken) .settles
-
-mul-settled : tie.Need-mul-settled Inv-loop μ-loop
-mul-settled c = search needs
-
-slice-set-from-settled : tie.Need-slice-set-from-settled Inv-loop μ-loop
-slice-set-from-settled c = search needs
-
-due-one-requires : tie.Need-due-one-requires Inv-loop μ-loop
-due-one-requires c κs = search needs
-
-add-rank : tie.Need-add-rank Inv-loop μ-loop
-add-rank c =
-    let s = c .before .before .before .before .before .before .before .before .before in
-    let n = next-slot (s .pre .0) (s .pre .1) (c .before .before .before .before .before .loop .inv) (c .before .before .before .before .loop-test .taken) in
-    omega (arith, n .few, n .early)
-
-add-k : tie.Need-add-k Inv-loop μ-loop
-add-k c = search needs
-
-loop-less : tie.Need-loop-less Inv-loop μ-loop
-loop-less c = omega (arith, c .before .before .before .before .before .loop .inv .settled .so .same)
-
-loop-again : tie.Need-loop-again Inv-loop μ-loop
-loop-again c =
-    let s = c .before .before .before .before .before .before .before .before .before in
-    walked-more _ _ _ _ (c .before .before .before .before .before .loop .inv) (c .before .before .before .before .loop-test .taken) (s .pre .1 .room) (c .due-one .ensures .0) (c .before .before .slot-price .ensures) (c .before .settled-slot .ensures)
-
-same-length : tie.Need-same-length Inv-loop μ-loop
-same-length c = c .before .loop .inv .settled .so .same
-
-same-length-2 : tie.Need-same-length-2 Inv-loop μ-loop
-same-length-2 c = c .before .loop .inv .priced .so .same
-
-returns : tie.Need-returns Inv-loop μ-loop
-unfolding settledTable slotPrices
-returns c = walked-end _ _ _ _ (c .before .loop .inv) (c .loop-test .left)
+returns : tie.Need-returns
+returns c =
+    let s = c .before .before .before .before .before .before .before .before .before .before .before .before .before .before in (
+      all-settled _ _ (rw (s .pre .1 .due-is, c .before .before .before .before .age-table .ensures) at (c .before .settle-due .ensures)),
+      ap (λ (l : List ℕ). l ++ drop (length (s .args .table .now)) (s .args .prices .now)) (all-priced _ (s .args .track-prices .now) (take (length (s .args .table .now)) (s .args .prices .now)) (length-take-le _ _ (s .pre .1 .room)) (rw (s .pre .1 .due-is) at (c .before .before .before .before .before .before .before .before .price-slots .ensures))),
+    )
 
 pub settle-table-spec : {M : Type 1} → statement M
 settle-table-spec =
     tie.close
     (tie.spec
-    Inv-loop
-    μ-loop
-    loop-holds
-    mul-slot
-    slice-copy-out-slot
-    slot-price-requires
-    mul-prices
-    slice-write-prices
-    settled-slot-requires
-    mul-settled
-    slice-set-from-settled
-    due-one-requires
-    add-rank
-    add-k
-    loop-less
-    loop-again
+    slice-relend-prefix-price-slots
+    slice-aggregate-price-slots
+    price-slots-requires
+    age-table-requires
+    settle-due-requires
     same-length
     same-length-2
     returns)
