@@ -1,6 +1,7 @@
 -- What one call of a sector promises: refusals, pairings, what reports are told, the answer entry by entry, counts.
 pub mod Calls
 pub mod Pairings
+pub mod Together
 pub mod Tallies
 pub mod Reports
 pub mod Answers

@@ -4,20 +4,24 @@ use mathlib.Core.Path.{_≡_}
 use mathlib.Core.Bool.{Bool}
 use mathlib.Core.List.{List, []}
 use lib.Dec.{eqb}
-use lib.ListN.{length, getD}
+use lib.ListN.{length, getD, take}
 use Rattle.laws.specs.Lists.{indicesFrom}
 use Rattle.records.specs.declared.Track.{Track}
 use Rattle.records.specs.Fields.{held}
 use Rattle.records.specs.Bytes.{markAt, trackOf}
 use Rattle.matching.specs.Pairing.{pairs, scoreSum, at}
+use Rattle.engine.specs.declared.Paired.{Paired}
+use Rattle.engine.specs.declared.Paired.the-variants as paired-call
 use Rattle.intake.specs.Refusals.{Input, dueSlots}
+use Rattle.scoresheet.specs.declared.Sheeted.{Sheeted}
+use Rattle.scoresheet.specs.declared.Sheeted.the-variants as sheet-call
 use Rattle.scoresheet.specs.Cells.{tracksOf, reportsOf, sectorSheet}
 use Rattle.walk.specs.Table.{settledTable}
 use Rattle.fates.specs.Fates.{paired, shownFrom, slotsOf, shownOf}
 use Rattle.sector.specs.declared.Counts.{Counts}
 use Rattle.sector.specs.declared.Served.{Served}
 use Rattle.sector.specs.declared.Served.the-variants.{Refused}
-use Rattle.sector.specs.Serve.{Lent, sectorRefusal, Chosen, reportsIn, fatesIn}
+use Rattle.sector.specs.Serve.{Lent, sectorRefusal, Chosen, Choice, reportsIn, fatesIn}
 
 -- what report j is told: its fate, its slot, whether it is shown
 abbrev pub fateAt : Input → List ℕ → ℕ → ℕ
@@ -99,6 +103,28 @@ pub record Accounted (i : Input) (c : Chosen) (l′ : Lent) (counts : Counts) : 
   pub as-scored : counts .«score_sum» ≡ scoreSum (sectorSheet i) (at (c .pairing))
   -- held slots after = before + started - dropped, said with the dropped ones on the other side
   pub slots : heldCount (l′ .table) + counts .dropped ≡ heldCount (i .table) + counts .started
+
+-- ---- the three calls
+
+-- the first entries of what a pairing call wrote, as many as the sector has due tracks and reports
+abbrev pub firstOf : Input → (pairing prices discounts : List ℕ) → Chosen
+firstOf i p u v = record { pairing = take (tracksOf i) p; prices = take (tracksOf i) u; discounts = take (reportsOf i) v }
+
+-- room in a pairing call's lists for a sector's pairing, prices and discounts
+pub record RoomToPair (i : Input) (p u v : List ℕ) : Type 0 where
+  pub for-pairing : tracksOf i ≤ length p
+  pub for-prices : tracksOf i ≤ length u
+  pub for-discounts : reportsOf i ≤ length v
+
+-- the pairing call is done, and a sector call may choose what it wrote
+pub record Together (i : Input) (p′ u′ v′ : List ℕ) (answer : Paired) : Type 0 where
+  pub done : answer ≡ paired-call.Done
+  pub choice : Choice i (firstOf i p′ u′ v′)
+
+-- a sector call and a sheet call are refused by the same numbers of 1 to 8
+pub record RefusedAlike (answer : Served) (sheeted : Sheeted) (k : ℕ) : Type 0 where
+  pub by-sheet : answer ≡ Refused k → sheeted ≡ sheet-call.Refused k
+  pub by-sector : sheeted ≡ sheet-call.Refused k → answer ≡ Refused k
 
 -- ---- a call as a whole
 
