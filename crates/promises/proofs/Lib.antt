@@ -4,6 +4,7 @@ pub mod Pairings
 pub mod Together
 pub mod Tallies
 pub mod Reports
+pub mod Slots
 pub mod Answers
 pub mod Counts
 pub mod Held
