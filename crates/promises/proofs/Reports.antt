@@ -133,10 +133,10 @@ module _ (i : Input) (c : Chosen) (h : Choice i c) (j : ℕ) (here : j < reports
   abbrev owner : ℕ
   owner = ownerOf (c .pairing) j
 
-  owner-due : owner < length (c .pairing) → owner < tracksOf i
+  pub owner-due : owner < length (c .pairing) → owner < tracksOf i
   owner-due l = omega (arith, h .number-each)
 
-  named-is-paired : (n : ℕ) → at (c .pairing) n ≡ j → Paired (at (c .pairing)) n
+  pub named-is-paired : (n : ℕ) → at (c .pairing) n ≡ j → Paired (at (c .pairing)) n
   named-is-paired n e z = omega (arith, few-reports i c h)
 
   -- the place that names report j is the only one

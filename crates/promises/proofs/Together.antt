@@ -179,7 +179,7 @@ sector-call-may-answer-so i l c e h = record {
 -- ---- refusals
 
 -- a number of 1 to 8 is given whatever the room
-by-fault : (i : Input) (room : Bool) (k : ℕ) → k < 9 → (k ≡ 0 → ⊥) → refusalOf i room ≡ k → faultOf i ≡ k
+pub by-fault : (i : Input) (room : Bool) (k : ℕ) → k < 9 → (k ≡ 0 → ⊥) → refusalOf i room ≡ k → faultOf i ≡ k
 by-fault i room k h n e =
     ⊎-elim
     (λ z. absurd (go room (sym (refused-by-room i room z) ∙ e)))

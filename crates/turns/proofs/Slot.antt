@@ -27,7 +27,7 @@ use Rattle.intake.specs.Refusals.{Input, Ready}
 use Rattle.walk.specs.Table.{freed, pairedSlot, missedSlot, agedSlot, settledSlot, settledTable}
 use Rattle.walk.specs.Counting.{SlotSettles}
 use Rattle.walk.proofs.Slots.{due-track, waits-on, aged-byte, missed-kept, missed-dropped}
-use Rattle.walk.proofs.Settled.{rankOf, settled-at, settles-at}
+use Rattle.walk.proofs.Settled.{rankOf, track-mark, settled-at, settles-at}
 use Rattle.fates.specs.Fates.{Handed, isFree, freeSlot, afterReport, reportNumbers, startedTable}
 use Rattle.laws.proofs.Rounds.{all-keep}
 use Rattle.fates.proofs.Starts.{GoodReports, report-keeps, held-slots-kept}
@@ -36,7 +36,7 @@ use Rattle.turns.specs.Calls.{Accepted, slotAt, WaitsOn, ServedIn, TurnS
 use Rattle.turns.proofs.Table.{known, names, good-reports}
 
 -- the slot as the reports left it
-pub left-slot : {l l′ : Lent} (a : Accepted l l′) (k : ℕ) → slotAt l′ k ≡ getD (startedTable (reportsIn (handedIn l (a .site) (a .batch))) (known a .chosen .pairing) (settledTable (handedIn l (a .site) (a .batch)) (known a .chosen .pairing))) k []
+left-slot : {l l′ : Lent} (a : Accepted l l′) (k : ℕ) → slotAt l′ k ≡ getD (startedTable (reportsIn (handedIn l (a .site) (a .batch))) (known a .chosen .pairing) (settledTable (handedIn l (a .site) (a .batch)) (known a .chosen .pairing))) k []
 unfolding afterOf
 left-slot a k = ap (λ (x : Lent). slotAt x k) (known a .left)
 
@@ -56,10 +56,6 @@ held-not-free slot e = rw e
 is-free : (slot : List ℕ) → eqb (at slot markAt) free ≡ true → isFree slot ≡ true
 unfolding isFree
 is-free slot e = e
-
-track-held : (slot : List ℕ) → trackOf slot .mark ≡ held → at slot markAt ≡ held
-unfolding trackOf
-track-held slot e = e
 
 -- it is aged, whatever the pairing
 pub not-due-ages : (s : ℕ) (batch : List (List ℕ)) (P slot : List ℕ) (rank : ℕ) → slotDue slot ≡ false → settledSlot s batch P slot rank ≡ agedSlot slot
@@ -127,7 +123,7 @@ fresh-aged {s} {batch} {P} {slot} {rank} w n = rw (ne-eqb (at slot markAt) held 
   where
     go : (b : Bool) → eqb (at slot markAt) free ≡ b → Fresh s slot
     go true e = fresh-free s slot (is-free slot e)
-    go false e = absurd (n (track-held slot (slot-well-formed slot s (w .slot-good) (eqb-false (at slot markAt) free e) .is-held)))
+    go false e = absurd (n (track-mark slot (slot-well-formed slot s (w .slot-good) (eqb-false (at slot markAt) free e) .is-held)))
 
 -- so every slot that did not hold a waiting track, as pairing leaves it
 fresh-settled : {s : ℕ} {batch : List (List ℕ)} {P slot : List ℕ} {rank : ℕ} → SlotSettles s batch P slot rank → (at slot markAt ≡ held → slotDue slot ≡ true) → Fresh s (settledSlot s batch P slot rank)
@@ -142,7 +138,7 @@ fresh-settled {s} {batch} {P} {slot} {rank} w n = go (slotDue slot) refl (eqb (a
     go false d e q = fresh-aged w (λ m. clash (n m) d)
 
 -- what holds of slot k, and of what is stored in any slot, holds of slot k after
-pub set-keeps : (R : List ℕ → Type 0) (k j : ℕ) (table : List (List ℕ)) (v : List ℕ) → R (getD table k []) → R v → R (getD (set table j v) k [])
+set-keeps : (R : List ℕ → Type 0) (k j : ℕ) (table : List (List ℕ)) (v : List ℕ) → R (getD table k []) → R v → R (getD (set table j v) k [])
 set-keeps R k j table v q w = go (eqb k j) refl (ltb k (length table)) refl
   where
     go : (b : Bool) → eqb k j ≡ b → (c : Bool) → ltb k (length table) ≡ c → R (getD (set table j v) k [])

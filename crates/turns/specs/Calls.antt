@@ -8,8 +8,9 @@ use lib.ListN.{length, getD, set}
 use Rattle.numbers.specs.Scales.{sectors, soonest}
 use Rattle.numbers.specs.Sectors.{sectorOf, nextSector}
 use Rattle.records.specs.declared.Site.{Site}
+use Rattle.records.specs.declared.Track.{Track}
 use Rattle.records.specs.Fields.{held, waitMost, trackFields}
-use Rattle.records.specs.Bytes.{at, waitAt, markAt, trackOf, badSlotField, slotDue}
+use Rattle.records.specs.Bytes.{at, waitAt, markAt, trackOf, bytesOf, badSlotField, slotDue}
 use Rattle.fates.specs.Fates.{paired, started}
 use Rattle.sector.specs.declared.Served.{Served}
 use Rattle.sector.specs.Serve.{Lent, handedIn, sectorRefusal, ServesSector}
@@ -61,6 +62,11 @@ pub record ServedIn (l l′ : Lent) (k : ℕ) : Type 0 where
   pub lies : k < length (l .table)
   pub is-held : at (slotAt l′ k) markAt ≡ held
   pub was-due : at (slotAt l k) markAt ≡ held → slotDue (slotAt l k) ≡ true
+
+-- so was the track in slot k, and the slot now holds t
+pub record ServedTo (t : Track) (l l′ : Lent) (k : ℕ) : Type 0 where
+  pub served-in : ServedIn l l′ k
+  pub holds : slotAt l′ k ≡ bytesOf t
 
 -- the fates of a report that has a track: its slot is told with it
 pub data HasTrack : ℕ → Type 0 where
