@@ -167,7 +167,8 @@ module _ (i : Input) (l l′ : Lent) (counts : Counts) (s : ServedWith i l l′ 
   abbrev P : List ℕ
   P = s .chosen .pairing
 
-  left-slot : (k : ℕ) → getD (l′ .table) k [] ≡ getD (startedTable (reportsIn i) P (settledTable i P)) k []
+  -- the slot as the reports left it
+  pub left-slot : (k : ℕ) → getD (l′ .table) k [] ≡ getD (startedTable (reportsIn i) P (settledTable i P)) k []
   unfolding afterOf
   left-slot k = ap (λ (x : Lent). getD (x .table) k []) (s .left)
 
@@ -177,7 +178,7 @@ module _ (i : Input) (l l′ : Lent) (counts : Counts) (s : ServedWith i l l′ 
   slot-after k h = rw (left-slot k) (upto i P k h (reportsOf i) (le-refl _))
 
   -- a track that pairing left stays
-  kept : (k : ℕ) → isFree (getD (settledTable i P) k []) ≡ false → getD (l′ .table) k [] ≡ getD (settledTable i P) k []
+  pub kept : (k : ℕ) → isFree (getD (settledTable i P) k []) ≡ false → getD (l′ .table) k [] ≡ getD (settledTable i P) k []
   kept k f = left-slot k ∙ held-slots-kept (reportsIn i) P (settledTable i P) k f
 
   -- A due track with a pair: its slot holds it, updated by its report.

@@ -3,4 +3,5 @@ pub mod Table
 pub mod Refused
 pub mod Slot
 pub mod Again
+pub mod Ahead
 pub mod Told

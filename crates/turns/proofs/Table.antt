@@ -27,7 +27,7 @@ use Rattle.walk.proofs.Settled.{settled-length, settled-good}
 use Rattle.fates.proofs.Starts.{AllGood, GoodReports, started-length, started-good}
 use Rattle.sector.specs.declared.Served.{Served}
 use Rattle.sector.specs.declared.Served.the-variants.{Refused}
-use Rattle.sector.specs.Serve.{ServesSector, Lent, handedIn, roomFor, sectorRefusal, Chosen, Choice, reportsIn, afterOf}
+use Rattle.sector.specs.Serve.{ServedWith, ServesSector, Lent, handedIn, roomFor, sectorRefusal, Chosen, Choice, reportsIn, afterOf}
 use Rattle.turns.specs.Calls.{Accepted, HandsOn, LeftGood, OfTable, is-1, is-2, is-4}
 
 -- a pairing that the check accepts names, for each due track, a report that is there or none
@@ -62,29 +62,19 @@ handed-on-good i l c r q = record {
 
 -- ---- an accepted call
 
--- what is known of it: it was ready, and it left the settled table with new tracks
-pub record Known (l l′ : Lent) (site : Site) (batch : List (List ℕ)) : Type 0 where
-  pub is-ready : Ready (handedIn l site batch)
-  pub chosen : Chosen
-  pub choice : Choice (handedIn l site batch) chosen
-  pub left : l′ ≡ afterOf (handedIn l site batch) l chosen
+-- what was promised of it: its choice, and what it left
+abbrev pub outcome : {l l′ : Lent} (a : Accepted l l′) → ServedWith (handedIn l (a .site) (a .batch)) l l′ (a .promise .served (a .not-refused) .counts)
+outcome a = a .promise .served (a .not-refused) .rest
 
-pub known : {l l′ : Lent} (a : Accepted l l′) → Known l l′ (a .site) (a .batch)
+-- and it was ready
+pub was-ready : {l l′ : Lent} (a : Accepted l l′) → Ready (handedIn l (a .site) (a .batch))
 unfolding sectorRefusal
-known {l} {l′} a =
-    let i : Input = handedIn l (a .site) (a .batch) in
-    let w = a .promise .served (a .not-refused) .rest in
-    record {
-      is-ready = ready i (not-refused i (roomFor i l) (a .not-refused) .0);
-      chosen = w .chosen;
-      choice = w .choice;
-      left = w .left;
-    }
+was-ready {l} a = let i : Input = handedIn l (a .site) (a .batch) in ready i (not-refused i (roomFor i l) (a .not-refused) .0)
 
 pub accepted-leaves-good : {l l′ : Lent} → Accepted l l′ → LeftGood (length (l .table)) l′
 accepted-leaves-good {l} {l′} a =
-    let w = known a in
-    rw (w .left) (handed-on-good (handedIn l (a .site) (a .batch)) l (w .chosen) (w .is-ready) (w .choice))
+    let w = outcome a in
+    rw (w .left) (handed-on-good (handedIn l (a .site) (a .batch)) l (w .chosen) (was-ready a) (w .choice))
 
 -- ---- the next call
 
@@ -115,7 +105,7 @@ module _ {l l′ next : Lent} (a : Accepted l l′) (o : HandsOn l′ next) (sit
   demand-met : {number : ℕ} → OfTable number → getD (true ∷ demands (handedIn next site batch)) number true ≡ true
   unfolding demands
   demand-met is-1 =
-      let r = known a .is-ready in
+      let r = was-ready a in
       and-both (le-leb 1 (length (next .table)) (rw slots-as-before (r .some-slots))) (le-leb (length (next .table)) mostSlots (rw slots-as-before (r .few-slots)))
   demand-met is-2 = lt-ltb (next .sector) sectors (rw (o .sector) (accepted-leaves-good a .sector-in))
   demand-met is-4 = none-bad (next .sector) (next .table) (rw (o .table, o .sector) (accepted-leaves-good a .slots-good))

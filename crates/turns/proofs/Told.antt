@@ -3,13 +3,12 @@ use Prim.Native.Nat.{ℕ, _+_, _≤_, _<_}
 use mathlib.Core.Path.{_≡_, refl, sym, _∙_}
 use mathlib.Core.Bool.{Bool, true, false}
 use mathlib.Core.List.{List, []}
-use borrow.Author.Tests.{eq-eqb}
 use lib.ListN.{length, getD}
 use Rattle.laws.proofs.Tests.{clash}
 use Rattle.records.specs.declared.Track.{Track}
 use Rattle.records.specs.Fields.{held, allowance}
 use Rattle.records.specs.Bytes.{at, markAt, trackOf, bytesOf, reportOf, slotDue}
-use Rattle.settling.specs.Settle.{updatedOf, missedOf, startedOf, agedOf}
+use Rattle.settling.specs.Settle.{updatedOf, missedOf, startedOf}
 use Rattle.matching.specs.Pairing.{none, Paired}
 use Rattle.intake.specs.Refusals.{Input}
 use Rattle.scoresheet.specs.Cells.{tracksOf, reportsOf}
@@ -19,18 +18,14 @@ use Rattle.walk.proofs.Settled.{rankOf, settled-at}
 use Rattle.fates.specs.Fates.{paired, started, isFree, ownerOf}
 use Rattle.fates.proofs.Starts.{mark-packed}
 use Rattle.sector.specs.declared.Counts.{Counts}
-use Rattle.sector.specs.Serve.{Lent, handedIn, ServedWith}
+use Rattle.sector.specs.Serve.{Lent, handedIn}
 use Rattle.promises.specs.Words as words
 use Rattle.promises.proofs.Answers.{answers-are-told}
 use Rattle.promises.proofs.Reports.{owner-has, owner-due, named-is-paired, paired-only, paired-slot}
 use Rattle.promises.proofs.Slots.{paired-slot-after, coasted-slot-after, started-slot-after}
 use Rattle.turns.specs.Calls.{Accepted, slotAt, ServedIn, ServedTo, HasTrack, by-pair, by-start}
-use Rattle.turns.proofs.Slot.{held-not-free, not-due-ages}
-
--- a slot that is aged still holds its track
-aged-held : (slot : List ℕ) → at slot markAt ≡ held → at (agedSlot slot) markAt ≡ held
-unfolding agedSlot agedOf trackOf
-aged-held slot m = rw (eq-eqb (at slot markAt) held m, mark-packed (agedOf (trackOf slot))) m
+use Rattle.turns.proofs.Table.{outcome}
+use Rattle.turns.proofs.Slot.{held-not-free, aged-held, not-due-ages}
 
 module _ {l l′ : Lent} (a : Accepted l l′) where
   abbrev i : Input
@@ -39,11 +34,8 @@ module _ {l l′ : Lent} (a : Accepted l l′) where
   abbrev counts : Counts
   counts = a .promise .served (a .not-refused) .counts
 
-  abbrev w : ServedWith i l l′ counts
-  w = a .promise .served (a .not-refused) .rest
-
   abbrev P : List ℕ
-  P = w .chosen .pairing
+  P = outcome a .chosen .pairing
 
   -- the slot of a due track, once it holds a track again
   due-served : (n : ℕ) → n < tracksOf i → (t : Track) → t .mark ≡ held → slotAt l′ (words.slotOfDue i n) ≡ bytesOf t → ServedTo t l l′ (words.slotOfDue i n)
@@ -56,12 +48,12 @@ module _ {l l′ : Lent} (a : Accepted l l′) where
   -- A due track with a pair is served, and its slot holds it as its report updates it.
   pub paired-served-in : (n : ℕ) → n < tracksOf i → Paired (at P) n → ServedTo (updatedOf (words.dueTrack i n) (reportOf (getD (a .batch) (at P n) [])) (l .sector)) l l′ (words.slotOfDue i n)
   unfolding updatedOf
-  paired-served-in n h p = due-served n h _ refl (paired-slot-after i l l′ counts w n h p)
+  paired-served-in n h p = due-served n h _ refl (paired-slot-after i l l′ counts (outcome a) n h p)
 
   -- A due track without a pair that may miss once more is served, and its slot holds it coasted.
   pub coasted-served-in : (n : ℕ) → n < tracksOf i → at P n ≡ none → words.dueTrack i n .misses + 1 ≤ allowance (words.dueTrack i n .updates) → ServedTo (missedOf (words.dueTrack i n) (l .sector)) l l′ (words.slotOfDue i n)
   unfolding missedOf
-  coasted-served-in n h e m = due-served n h _ refl (coasted-slot-after i l l′ counts w n h e m)
+  coasted-served-in n h e m = due-served n h _ refl (coasted-slot-after i l l′ counts (outcome a) n h e m)
 
   -- a slot that pairing left free held no waiting track
   none-waiting : (k : ℕ) → k < length (l .table) → isFree (getD (settledTable i P) k []) ≡ true → at (slotAt l k) markAt ≡ held → slotDue (slotAt l k) ≡ true
@@ -74,9 +66,9 @@ module _ {l l′ : Lent} (a : Accepted l l′) where
           absurd (clash f (held-not-free (getD (settledTable i P) k []) (rw aged (aged-held (slotAt l k) m))))
 
   module _ (j : ℕ) (here : j < length (a .batch)) where
-    told : words.AnswersTold i (w .chosen) l′ j
+    told : words.AnswersTold i (outcome a .chosen) l′ j
     unfolding reportsOf
-    told = answers-are-told i l l′ counts w j here
+    told = answers-are-told i l l′ counts (outcome a) j here
 
     -- A report that is told paired: the track in its slot was due, and is updated by it.
     pub told-paired-served : at (l′ .fates) j ≡ paired → ServedTo (updatedOf (trackOf (slotAt l (at (l′ .slots) j))) (reportOf (getD (a .batch) j [])) (l .sector)) l l′ (at (l′ .slots) j)
@@ -85,14 +77,14 @@ module _ {l l′ : Lent} (a : Accepted l l′) where
         let o : ownerOf P j < length P = paired-only i P j here (sym (told .fate) ∙ e) in
         let mine : at P (ownerOf P j) ≡ j = owner-has P j o in
         let k : at (l′ .slots) j ≡ words.slotOfDue i (ownerOf P j) = told .slot ∙ paired-slot i P j here o in
-        let s = paired-served-in (ownerOf P j) (owner-due i (w .chosen) (w .choice) j here o) (named-is-paired i (w .chosen) (w .choice) j here (ownerOf P j) mine) in
+        let s = paired-served-in (ownerOf P j) (owner-due i (outcome a .chosen) (outcome a .choice) j here o) (named-is-paired i (outcome a .chosen) (outcome a .choice) j here (ownerOf P j) mine) in
         rw k (rw mine at s)
 
     -- A report that is told started: its slot held no waiting track, and holds the new one.
     pub told-started-served : at (l′ .fates) j ≡ started → ServedTo (startedOf (reportOf (getD (a .batch) j [])) (l .sector)) l l′ (at (l′ .slots) j)
     unfolding reportsOf startedOf
     told-started-served e =
-        let s = started-slot-after i l l′ counts w j here (sym (told .fate) ∙ e) in
+        let s = started-slot-after i l l′ counts (outcome a) j here (sym (told .fate) ∙ e) in
         rw (told .slot)
         (record {
           served-in = record {
