@@ -1,4 +1,5 @@
--- What one call of a sector promises: refusals, pairings, what reports are told, the answer entry by entry, counts.
+-- What one call of a sector promises: refusals, pairings, the three calls, what reports are told, each slot after it, the
+-- answer entry by entry, counts.
 pub mod Calls
 pub mod Pairings
 pub mod Together

@@ -78,7 +78,7 @@ given i sheet n m e = given-by (refusalOf i (roomFor i sheet)) i sheet n m (λ z
 -- ---- the pairing call on that sheet
 
 module _ (i : Input) (rest : List ℕ) (r : Ready i) (p u v : List ℕ) (room : RoomToPair i p u v) where
-  -- what it wrote is a choice
+  -- the first entries of what a served call wrote
   written-is-a-choice : (p′ u′ v′ : List ℕ) → pairing.Served (tracksOf i) (reportsOf i) (cellsOf i ++ rest) p u v p′ u′ v′ → Choice i (firstOf i p′ u′ v′)
   written-is-a-choice p′ u′ v′ s = record {
     number-each = length-take-le (tracksOf i) p′ (z .pairing-long);
@@ -104,7 +104,7 @@ module _ (i : Input) (rest : List ℕ) (r : Ready i) (p u v : List ℕ) (room : 
           z (cells-alike i rest)
           (λ k h. getD-take (tracksOf i) p′ k 0 h) (λ k h. getD-take (tracksOf i) u′ k 0 h) (λ k h. getD-take (reportsOf i) v′ k 0 h)
 
-  -- a choice is what it may write
+  -- a choice, with what lay beyond it
   choice-may-be-written : (c : Chosen) → Choice i c → pairing.Served (tracksOf i) (reportsOf i) (cellsOf i ++ rest) p u v (c .pairing ++ drop (tracksOf i) p) (c .prices ++ drop (tracksOf i) u) (c .discounts ++ drop (reportsOf i) v)
   choice-may-be-written c h = record {
     accepted =
@@ -141,6 +141,7 @@ module _ (i : Input) (rest : List ℕ) (r : Ready i) (p u v : List ℕ) (room : 
       front-long : {n : ℕ} (xs more : List ℕ) → length xs ≡ n → n ≤ length (xs ++ more)
       front-long xs more e = rw length-append (omega arith)
 
+  -- so it is done, and what it wrote is a choice
   call-is-done : {p′ u′ v′ : List ℕ} {a : Paired} → pairing.PairsSheet (tracksOf i) (reportsOf i) (cellsOf i ++ rest) p u v p′ u′ v′ a → Together i p′ u′ v′ a
   unfolding pairing.answerOf
   call-is-done {p′} {u′} {v′} R = record {
@@ -148,6 +149,7 @@ module _ (i : Input) (rest : List ℕ) (r : Ready i) (p u v : List ℕ) (room : 
     choice = written-is-a-choice p′ u′ v′ (R .served (own-sheet-is-not-refused i rest r p u v room));
   }
 
+  -- and any choice is what it may write
   call-may-write : (c : Chosen) → Choice i c → pairing.PairsSheet (tracksOf i) (reportsOf i) (cellsOf i ++ rest) p u v (c .pairing ++ drop (tracksOf i) p) (c .prices ++ drop (tracksOf i) u) (c .discounts ++ drop (reportsOf i) v) paired-call.Done
   unfolding pairing.answerOf
   call-may-write c h =
@@ -156,6 +158,13 @@ module _ (i : Input) (rest : List ℕ) (r : Ready i) (p u v : List ℕ) (room : 
 
 -- ---- the three calls
 
+-- A sector call that is not refused may answer with any choice: with exactly that pairing, those prices and those discounts.
+pub sector-call-may-answer-so : (i : Input) (l : Lent) (c : Chosen) → sectorRefusal i l ≡ 0 → Choice i c → ServesSector i l (afterOf i l c) (Done (countsOf i (c .pairing)))
+sector-call-may-answer-so i l c e h = record {
+  refused = λ d. absurd (d e);
+  served = λ z. record { counts = countsOf i (c .pairing); done = refl; rest = record { chosen = c; choice = h; counted = refl; left = refl } };
+}
+
 module _ (i : Input) (sheet p u v : List ℕ) (n m : ℕ) (e : sheetedOf i sheet ≡ sheet-call.Sheet n m) (room : RoomToPair i p u v) where
   -- Where the sheet call gives a sheet, the pairing call on it is done, and what it writes is a choice that the sector call may make.
   pub two-calls-give-a-choice : {p′ u′ v′ : List ℕ} {a : Paired} → pairing.PairsSheet n m (sheetAfter i sheet) p u v p′ u′ v′ a → Together i p′ u′ v′ a
@@ -163,18 +172,15 @@ module _ (i : Input) (sheet p u v : List ℕ) (n m : ℕ) (e : sheetedOf i sheet
       let g = given i sheet n m e in
       call-is-done i _ (g .is-ready) p u v room (rw (g .cells, ← g .tracks, ← g .reports) at R)
 
+  -- So a sector call gives what these two give together: it may answer with exactly that pairing and those numbers.
+  pub sector-call-gives-both : {p′ u′ v′ : List ℕ} {a : Paired} → pairing.PairsSheet n m (sheetAfter i sheet) p u v p′ u′ v′ a → (l : Lent) → sectorRefusal i l ≡ 0 → ServesSector i l (afterOf i l (firstOf i p′ u′ v′)) (Done (countsOf i (take (tracksOf i) p′)))
+  sector-call-gives-both {p′} {u′} {v′} R l z = sector-call-may-answer-so i l (firstOf i p′ u′ v′) z (two-calls-give-a-choice R .choice)
+
   -- And whatever choice a sector call makes, the pairing call may write on that sheet.
   pub choice-is-what-two-calls-give : (c : Chosen) → Choice i c → pairing.PairsSheet n m (sheetAfter i sheet) p u v (c .pairing ++ drop n p) (c .prices ++ drop n u) (c .discounts ++ drop m v) paired-call.Done
   choice-is-what-two-calls-give c h =
       let g = given i sheet n m e in
       rw (g .cells, ← g .tracks, ← g .reports) (call-may-write i _ (g .is-ready) p u v room c h)
-
--- So a sector call that is not refused may answer with exactly that pairing, those prices and those discounts.
-pub sector-call-may-answer-so : (i : Input) (l : Lent) (c : Chosen) → sectorRefusal i l ≡ 0 → Choice i c → ServesSector i l (afterOf i l c) (Done (countsOf i (c .pairing)))
-sector-call-may-answer-so i l c e h = record {
-  refused = λ d. absurd (d e);
-  served = λ z. record { counts = countsOf i (c .pairing); done = refl; rest = record { chosen = c; choice = h; counted = refl; left = refl } };
-}
 
 -- ---- refusals
 

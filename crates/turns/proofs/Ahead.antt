@@ -34,6 +34,7 @@ aged-wait : (slot : List ℕ) → Held slot → at (agedSlot slot) waitAt ≡ at
 unfolding agedSlot agedOf trackOf bytesOf
 aged-wait slot m = rw (eq-eqb (at slot markAt) held m)
 
+-- no track, or another wait
 not-both : (mark x y : ℕ) → (mark ≡ held → x ≡ y → ⊥) → (eqb mark held && eqb x y) ≡ false
 not-both mark x y h = go (eqb mark held) refl (eqb x y) refl
   where
@@ -121,6 +122,7 @@ still-same (one-more {n} {l} {l′} {next} {last} c o a) k lies m h =
 
 -- ---- the whole table
 
+-- how many are due, or wait n calls, as a sum over the slots
 due-sum : (l : Lent) → length (dueSlots (l .table)) ≡ Sum (length (l .table)) (λ k. cond (slotDue (slotAt l k)) 1 0)
 unfolding dueSlots
 due-sum l = count-places slotDue (l .table) []

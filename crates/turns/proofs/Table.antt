@@ -1,7 +1,7 @@
 -- What a served call leaves is fit for the next call. Assumes nothing.
 use Prim.Native.Nat.{ℕ, suc, _<_}
 use mathlib.Core.Path.{_≡_, refl, sym, _∙_}
-use mathlib.Core.Bool.{Bool, true, false, cond}
+use mathlib.Core.Bool.{Bool, true, false}
 use mathlib.Core.List.{List, [], _∷_}
 use native.Mathlib.Nat.{le-of-eq}
 use native.Mathlib.Omega.{arith}
@@ -18,7 +18,7 @@ use Rattle.records.specs.Fields.{trackFields}
 use Rattle.records.specs.Bytes.{badSlotField}
 use Rattle.records.proofs.Checked.{sound}
 use Rattle.matching.proofs.Theorems.{zero-certificate}
-use Rattle.intake.specs.Refusals.{Input, mostSlots, slotBad, noneOf, demands, faultOf, refusalOf, Ready}
+use Rattle.intake.specs.Refusals.{Input, mostSlots, slotBad, noneOf, demands, refusalOf, Ready}
 use Rattle.intake.proofs.Readiness.{ready, fault-means, not-refused}
 use Rattle.scoresheet.specs.Cells.{cellsOf, tracksOf, reportsOf}
 use Rattle.walk.specs.Table.{settledTable}
@@ -28,6 +28,7 @@ use Rattle.fates.proofs.Starts.{AllGood, GoodReports, started-length, started-g
 use Rattle.sector.specs.declared.Served.{Served}
 use Rattle.sector.specs.declared.Served.the-variants.{Refused}
 use Rattle.sector.specs.Serve.{ServedWith, ServesSector, Lent, handedIn, roomFor, sectorRefusal, Chosen, Choice, reportsIn, afterOf}
+use Rattle.promises.proofs.Together.{by-fault}
 use Rattle.turns.specs.Calls.{Accepted, HandsOn, LeftGood, OfTable, is-1, is-2, is-4}
 
 -- a pairing that the check accepts names, for each due track, a report that is there or none
@@ -80,17 +81,8 @@ accepted-leaves-good {l} {l′} a =
 
 -- a demand that holds is not the one that a call is refused by
 module _ (i : Input) (room : Bool) where
-  no-fault : (k : ℕ) → getD (demands i) k true ≡ true → faultOf i ≡ suc k → ⊥
-  no-fault k e f = clash e (fault-means i k f .0)
-
   not-by : (k : ℕ) → suc k < 9 → getD (demands i) k true ≡ true → refusalOf i room ≡ suc k → ⊥
-  unfolding refusalOf
-  not-by k h e = go (eqb (faultOf i) 0) refl room
-    where
-      go : (b : Bool) → eqb (faultOf i) 0 ≡ b → (r : Bool) → cond b (cond r 0 9) (faultOf i) ≡ suc k → ⊥
-      go true z true q = omega arith
-      go true z false q = omega arith
-      go false z r q = no-fault k e q
+  not-by k h e q = clash e (fault-means i k (by-fault i room (suc k) h (λ z. omega arith) q) .0)
 
 -- the table has slots, and not too many, and none of them is malformed for the sector
 none-bad : (s : ℕ) (table : List (List ℕ)) → ((k : ℕ) → k < length table → badSlotField (getD table k []) s ≡ trackFields) → noneOf (slotBad s) table ≡ true
