@@ -84,7 +84,8 @@ enum {
     PLOT_REFUSED_BATCH = 5,        /* over 100 reports */
     PLOT_REFUSED_REPORT = 6,       /* a report field out of range */
     PLOT_REFUSED_OTHER_SECTOR = 7, /* a report's azimuth lies in another sector */
-    PLOT_REFUSED_DUE = 8,          /* over 100 due tracks */
+    PLOT_REFUSED_DUE = 8,          /* over 100 due tracks; the table stays as it is, so every further call on it is refused too:
+                                      count the held slots by wait and thin the table before their turn comes */
     PLOT_REFUSED_ROOM = 9,         /* an answer list, or the sheet, too short */
     /* plot_pair_sheet (21, 22) and plot_check_pairing (21 to 26) */
     PLOT_REFUSED_SIZES = 21,     /* over 100 tracks or reports, or a list too short for them */

@@ -1,10 +1,10 @@
--- What the answers say of the reports: each has one of four fates, and is shown exactly when its track has updates enough. Assumes nothing.
-use Prim.Native.Nat.{ℕ, suc, _+_, _≤_, _<_}
+-- What the answers say of the reports: each has one of four fates, and its shown mark goes by the table as pairing left it. Assumes nothing.
+use Prim.Native.Nat.{ℕ, suc, _+_, _<_}
 use mathlib.Core.Path.{_≡_, refl, _∙_}
 use mathlib.Core.Bool.{Bool, true, false, cond}
 use mathlib.Core.List.{List, [], _∷_, _++_}
 use native.Mathlib.Omega.{arith}
-use borrow.Author.Tests.{leb-true, le-leb, lt-ltb, ltb-true}
+use borrow.Author.Tests.{ltb-true}
 use lib.Dec.{eqb, leb, ltb}
 use lib.ListN.{length, getD, take}
 use lib.Seq.{take-at}
@@ -12,8 +12,8 @@ use Rattle.laws.specs.Lists.{indicesFrom, outs}
 use Rattle.laws.proofs.Listed.{length-listed}
 use Rattle.laws.proofs.Fold.{length-outs}
 use Rattle.records.specs.Fields.{isWeak}
-use Rattle.records.specs.Bytes.{trackOf, reportOf}
-use Rattle.fates.specs.Fates.{paired, started, weak, full, noSlot, shownFrom, Handed, isFree, freeSlot, ownerOf, shownMark, slotOf, toldPaired, toldUnpaired, toldOf, afterReport, reportNumbers, fatesOf, slotsOf, shownOf, countOf}
+use Rattle.records.specs.Bytes.{reportOf}
+use Rattle.fates.specs.Fates.{paired, started, weak, full, noSlot, Handed, isFree, freeSlot, ownerOf, shownMark, slotOf, toldPaired, toldUnpaired, toldOf, afterReport, reportNumbers, fatesOf, slotsOf, shownOf, countOf}
 use Rattle.laws.proofs.Rounds.{numbers, told-at, count-from}
 use Rattle.fates.proofs.Telling.{fateOut, slotOut, shownOut}
 use Rattle.fates.proofs.Starts.{tableAt, held-at}
@@ -126,20 +126,3 @@ module _ (h : Handed) (P : List ℕ) (table : List (List ℕ)) (j : ℕ) (here :
       go : (b : Bool) → ltb (ownerOf P j) (length P) ≡ b → cond b (shownMark (getD (tableAt h P j table) (slotOf h P j) [])) 0 ≡ cond b (shownMark (getD table (slotOf h P j) [])) 0
       go true e = rw (held-at h P j table (slotOf h P j) (there (ltb-true (ownerOf P j) (length P) e)))
       go false e = refl
-
-  -- a report is shown exactly when it is paired and its track now has three updates or more
-  pub record Shown : Type 0 where
-    pub is-paired : ownerOf P j < length P
-    pub settled : shownFrom ≤ trackOf (getD table (slotOf h P j) []) .updates
-
-  pub shown-iff : TrackThere → (getD (shownOf h P table) j 0 ≡ 1 → Shown) × (Shown → getD (shownOf h P table) j 0 ≡ 1)
-  unfolding shownMark
-  shown-iff there = rw (shown-at there) (only (ltb (ownerOf P j) (length P)) (leb shownFrom (trackOf (getD table (slotOf h P j) []) .updates)) refl refl, when)
-    where
-      only : (a b : Bool) → ltb (ownerOf P j) (length P) ≡ a → leb shownFrom (trackOf (getD table (slotOf h P j) []) .updates) ≡ b → _≡_ {A = ℕ} (cond a (cond b 1 0) 0) 1 → Shown
-      only true true p q e = record { is-paired = ltb-true _ _ p; settled = leb-true _ _ q }
-      only true false p q e = absurd (omega arith)
-      only false b p q e = absurd (omega arith)
-
-      when : Shown → _≡_ {A = ℕ} (cond (ltb (ownerOf P j) (length P)) (cond (leb shownFrom (trackOf (getD table (slotOf h P j) []) .updates)) 1 0) 0) 1
-      when s = rw (lt-ltb _ _ (s .is-paired), le-leb _ _ (s .settled))

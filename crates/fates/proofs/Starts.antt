@@ -57,7 +57,7 @@ unfolding startedTable reportNumbers
 started-length h P table = length-at h P (length (h .batch)) table
 
 -- a slot that is not free is not the one that a track starts in
-start-elsewhere : (table : List (List ℕ)) (k : ℕ) (v : List ℕ) → isFree (getD table k []) ≡ false → getD (set table (freeSlot table) v) k [] ≡ getD table k []
+pub start-elsewhere : (table : List (List ℕ)) (k : ℕ) (v : List ℕ) → isFree (getD table k []) ≡ false → getD (set table (freeSlot table) v) k [] ≡ getD table k []
 unfolding freeSlot
 start-elsewhere table k v f = go (ltb (freeSlot table) (length table)) refl
   where
@@ -86,7 +86,7 @@ pub record AllGood (s : ℕ) (table : List (List ℕ)) : Type 0 where
   pub good : (k : ℕ) → k < length table → badSlotField (getD table k []) s ≡ trackFields
 
 -- a well-formed track, packed, has none
-mark-packed : (t : Track) → at (bytesOf t) markAt ≡ t .mark
+pub mark-packed : (t : Track) → at (bytesOf t) markAt ≡ t .mark
 unfolding bytesOf
 mark-packed t = refl
 

@@ -1,2 +1,3 @@
 -- Laws of the C border.
 pub mod Telling
+pub mod OneResult

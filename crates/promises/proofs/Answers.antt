@@ -26,6 +26,7 @@ use Rattle.promises.specs.Words.{slotOfDue, TrackServed, SeenServed, Ans
 use Rattle.promises.proofs.Pairings.{valid-pairing, every-due-track-is-paired}
 use Rattle.promises.proofs.Tallies.{count, count-none, count-cons}
 use Rattle.promises.proofs.Reports.{rank-is, pairing-is-read-off, shown-exactly-when}
+use Rattle.promises.proofs.Slots.{paired-slot-after}
 
 -- ---- entry by entry
 
@@ -64,11 +65,12 @@ module _ (i : Input) (c : Chosen) (h : Choice i c) where
         shown = λ u. shown-exactly-when i c h (at (c .pairing) n) here .when (record { place = n; due = l; has = refl; old = u });
       }
 
--- The glider: where some one-to-one pairing of admissible pairs serves every due track, the answer shows every due track served, and each that
--- had two updates or more shown.
+-- The glider: where some one-to-one pairing of admissible pairs serves every due track, the call continues every due track: the answer says so,
+-- shows each that had two updates or more, and the table holds the track as its report updates it.
 pub glider : (i : Input) (l l′ : Lent) (counts : Counts) → ServedWith i l l′ counts → (Q : ℕ → ℕ) → ValidPairing (sectorSheet i) Q → ((n : ℕ) → n < tracksOf i → Paired Q n) → (n : ℕ) → n < tracksOf i → SeenServed i l′ n
 glider i l l′ counts s Q q all n b =
-    let w : TrackServed i (s .chosen .pairing) n = paired-track-is-served i (s .chosen) (s .choice) n b (every-due-track-is-paired i (s .chosen) (s .choice) Q q all n b) in
+    let p : Paired (at (s .chosen .pairing)) n = every-due-track-is-paired i (s .chosen) (s .choice) Q q all n b in
+    let w : TrackServed i (s .chosen .pairing) n = paired-track-is-served i (s .chosen) (s .choice) n b p in
     let a : AnswersTold i (s .chosen) l′ (w .report) = answers-are-told i l l′ counts s (w .report) (w .here) in
     record {
       report = w .report;
@@ -76,6 +78,7 @@ glider i l l′ counts s Q q all n b =
       fate = a .fate ∙ w .told .fate;
       slot = a .slot ∙ w .told .slot;
       shown = λ u. a .shown ∙ w .shown u;
+      continued = rw (w .has) at (paired-slot-after i l l′ counts s n b p);
     }
 
 -- ---- prices

@@ -1,8 +1,11 @@
--- What one call of a sector promises: refusals, pairings, what reports are told, the answer entry by entry, counts.
+-- What one call of a sector promises: refusals, pairings, the three calls, what reports are told, each slot after it, the
+-- answer entry by entry, counts.
 pub mod Calls
 pub mod Pairings
+pub mod Together
 pub mod Tallies
 pub mod Reports
+pub mod Slots
 pub mod Answers
 pub mod Counts
 pub mod Held

@@ -1,10 +1,9 @@
--- The pairing of a served call: best for its sector, one to one, what the pairing call and the check say of it. Assumes nothing.
+-- The pairing of a served call: best for its sector, one to one, what the check says of it. Assumes nothing.
 use Prim.Native.Nat.{ℕ, _≤_, _<_}
 use mathlib.Core.Path.{_≡_, refl, sym, ap, _∙_}
 use mathlib.Core.List.{List, []}
-use native.Mathlib.Nat.{le-of-eq}
 use native.Mathlib.Omega.{arith}
-use lib.ListN.{length, getD, drop, drop-of-length-le}
+use lib.ListN.{length, getD}
 use Rattle.records.specs.Bytes.{reportOf}
 use Rattle.scoring.specs.declared.Scored.{Scored}
 use Rattle.scoring.specs.declared.Scored.the-variants.{NotAdmissible, Score}
@@ -13,7 +12,6 @@ use Rattle.scoring.proofs.ScoreLaws.{score-below}
 use Rattle.matching.specs.Pairing.{none, scoreEnd, Admissible, Paired, ValidPairing, misses, Best, at}
 use Rattle.matching.specs.Answer.{Fits, checkAnswer}
 use Rattle.matching.proofs.Theorems.{zero-certificate, best-is-zero, fewest-misses, all-are-served, no-report-unused}
-use Rattle.engine.specs.Call.{Served}
 use Rattle.intake.specs.Refusals.{Input}
 use Rattle.scoresheet.specs.Cells.{cellOf, tracksOf, reportsOf, cellsOf, sectorSheet}
 use Rattle.scoresheet.proofs.SheetLaws.{cell-is}
@@ -70,26 +68,7 @@ module _ (i : Input) (c : Chosen) (h : Choice i c) where
   unfolding sectorSheet
   one-to-one n k a b p e = valid-pairing .once n k a b p e
 
-  -- ---- the three calls
-
-  -- With lists of a sector's sizes lent, what the sector call chose is what the pairing call promises of the sector's own sheet.
-  pub three-calls-agree : (p u v : List ℕ) → length p ≡ tracksOf i → length u ≡ tracksOf i → length v ≡ reportsOf i → Served (tracksOf i) (reportsOf i) (cellsOf i) p u v (c .pairing) (c .prices) (c .discounts)
-  three-calls-agree p u v a b d = record {
-    accepted = h .accepted;
-    pairing-beyond = both-end (tracksOf i) (c .pairing) p (h .number-each) a;
-    prices-beyond = both-end (tracksOf i) (c .prices) u (h .price-each) b;
-    discounts-beyond = both-end (reportsOf i) (c .discounts) v (h .discount-each) d;
-  }
-    where
-      both-end : (n : ℕ) (x y : List ℕ) → length x ≡ n → length y ≡ n → drop n x ≡ drop n y
-      both-end n x y e f = drop-of-length-le x (le-of-eq e) ∙ sym (drop-of-length-le y (le-of-eq f))
-
   -- With the sector call's prices and discounts the check accepts every best pairing of the sheet.
   pub check-accepts-every-best : (q : List ℕ) → tracksOf i ≤ length q → Best (sectorSheet i) (at q) → checkAnswer (tracksOf i) (reportsOf i) (cellsOf i) q (c .prices) (c .discounts) ≡ 0
   unfolding sectorSheet
   check-accepts-every-best q l b = best-is-zero (tracksOf i) (reportsOf i) (cellsOf i) (c .pairing) q (c .prices) (c .discounts) (h .accepted) l b
-
--- And what the pairing call gives for the sector's own sheet, in lists of a sector's sizes, is a choice that the sector call may make: the sector
--- call gives what the score sheet call and the pairing call give together, no more and no less.
-pub two-calls-give-a-choice : (i : Input) (p u v : List ℕ) (c : Chosen) → length (c .pairing) ≡ tracksOf i → length (c .prices) ≡ tracksOf i → length (c .discounts) ≡ reportsOf i → Served (tracksOf i) (reportsOf i) (cellsOf i) p u v (c .pairing) (c .prices) (c .discounts) → Choice i c
-two-calls-give-a-choice i p u v c a b d s = record { number-each = a; price-each = b; discount-each = d; accepted = s .accepted }

@@ -106,11 +106,11 @@ told-unpaired h P j table l = rw (le-ltb (ownerOf P j) (length P) l) (go (isWeak
     go false false e = omega arith
 
 module _ (i : Input) (P : List ℕ) (j : ℕ) (here : j < reportsOf i) where
-  fate-is : fateAt i P j ≡ toldOf (reportsIn i) P j (tableAt (reportsIn i) P j (settledTable i P)) .fate
+  pub fate-is : fateAt i P j ≡ toldOf (reportsIn i) P j (tableAt (reportsIn i) P j (settledTable i P)) .fate
   unfolding fatesIn fatesOf reportNumbers reportsOf
   fate-is = told-at (afterReport (reportsIn i) P) (fateOut (reportsIn i) P) (length (i .batch)) (λ k. k) (settledTable i P) j 0 here
 
-  slot-is : slotAt i P j ≡ toldOf (reportsIn i) P j (tableAt (reportsIn i) P j (settledTable i P)) .slot
+  pub slot-is : slotAt i P j ≡ toldOf (reportsIn i) P j (tableAt (reportsIn i) P j (settledTable i P)) .slot
   unfolding slotsOf reportNumbers reportsOf
   slot-is = told-at (afterReport (reportsIn i) P) (slotOut (reportsIn i) P) (length (i .batch)) (λ k. k) (settledTable i P) j 0 here
 
@@ -133,10 +133,10 @@ module _ (i : Input) (c : Chosen) (h : Choice i c) (j : ℕ) (here : j < reports
   abbrev owner : ℕ
   owner = ownerOf (c .pairing) j
 
-  owner-due : owner < length (c .pairing) → owner < tracksOf i
+  pub owner-due : owner < length (c .pairing) → owner < tracksOf i
   owner-due l = omega (arith, h .number-each)
 
-  named-is-paired : (n : ℕ) → at (c .pairing) n ≡ j → Paired (at (c .pairing)) n
+  pub named-is-paired : (n : ℕ) → at (c .pairing) n ≡ j → Paired (at (c .pairing)) n
   named-is-paired n e z = omega (arith, few-reports i c h)
 
   -- the place that names report j is the only one
@@ -174,7 +174,7 @@ one-slot-one-report i c h j k a b f g e =
 -- ---- shown
 
 -- a slot that a pair settled is not free, and its track is shown from its third update on
-updated-held : (t : Track) (p : Report) (s : ℕ) → isFree (bytesOf (updatedOf t p s)) ≡ false
+pub updated-held : (t : Track) (p : Report) (s : ℕ) → isFree (bytesOf (updatedOf t p s)) ≡ false
 unfolding isFree bytesOf updatedOf
 updated-held t p s = refl
 

@@ -1,23 +1,29 @@
 -- What a call and its answer say: of one report, of one due track, of all of them; P is the pairing. Assumes nothing.
 use Prim.Native.Nat.{ℕ, _+_, _-_, _≤_, _<_}
 use mathlib.Core.Path.{_≡_}
-use mathlib.Core.Bool.{Bool}
+use mathlib.Core.Bool.{Bool, true}
+use mathlib.Core.Logic.{_⊎_}
 use mathlib.Core.List.{List, []}
 use lib.Dec.{eqb}
-use lib.ListN.{length, getD}
+use lib.ListN.{length, getD, take}
 use Rattle.laws.specs.Lists.{indicesFrom}
 use Rattle.records.specs.declared.Track.{Track}
 use Rattle.records.specs.Fields.{held}
-use Rattle.records.specs.Bytes.{markAt, trackOf}
+use Rattle.records.specs.Bytes.{markAt, trackOf, bytesOf, reportOf}
+use Rattle.settling.specs.Settle.{updatedOf, startedOf}
 use Rattle.matching.specs.Pairing.{pairs, scoreSum, at}
+use Rattle.engine.specs.declared.Paired.{Paired}
+use Rattle.engine.specs.declared.Paired.the-variants as paired-call
 use Rattle.intake.specs.Refusals.{Input, dueSlots}
+use Rattle.scoresheet.specs.declared.Sheeted.{Sheeted}
+use Rattle.scoresheet.specs.declared.Sheeted.the-variants as sheet-call
 use Rattle.scoresheet.specs.Cells.{tracksOf, reportsOf, sectorSheet}
 use Rattle.walk.specs.Table.{settledTable}
-use Rattle.fates.specs.Fates.{paired, shownFrom, slotsOf, shownOf}
+use Rattle.fates.specs.Fates.{paired, started, shownFrom, isFree, slotsOf, shownOf}
 use Rattle.sector.specs.declared.Counts.{Counts}
 use Rattle.sector.specs.declared.Served.{Served}
 use Rattle.sector.specs.declared.Served.the-variants.{Refused}
-use Rattle.sector.specs.Serve.{Lent, sectorRefusal, Chosen, reportsIn, fatesIn}
+use Rattle.sector.specs.Serve.{Lent, sectorRefusal, Chosen, Choice, reportsIn, fatesIn}
 
 -- what report j is told: its fate, its slot, whether it is shown
 abbrev pub fateAt : Input → List ℕ → ℕ → ℕ
@@ -73,13 +79,28 @@ isHeld slot = eqb (at slot markAt) held
 unfoldable pub heldCount : List (List ℕ) → ℕ
 heldCount table = length (indicesFrom isHeld 0 table)
 
--- the n-th due track, as the answer shows it: some report is told paired in its slot, and is shown where the track had two updates or more
+-- the n-th due track, as the call leaves it: some report is told paired in its slot, is shown where the track had two updates or more, and
+-- the slot holds the track, updated by that report
 pub record SeenServed (i : Input) (l′ : Lent) (n : ℕ) : Type 0 where
   pub report : ℕ
   pub here : report < reportsOf i
   pub fate : getD (l′ .fates) report 0 ≡ paired
   pub slot : getD (l′ .slots) report 0 ≡ slotOfDue i n
   pub shown : updatesBefore ≤ dueTrack i n .updates → getD (l′ .shown) report 0 ≡ 1
+  pub continued : getD (l′ .table) (slotOfDue i n) [] ≡ bytesOf (updatedOf (dueTrack i n) (reportOf (getD (i .batch) report [])) (i .sector))
+
+-- report j started its track in slot k, which pairing had left free, and is told so; slot is what stands there after the call
+pub record StartedThere (i : Input) (P : List ℕ) (j k : ℕ) (slot : List ℕ) : Type 0 where
+  pub here : j < reportsOf i
+  pub lies : k < length (i .table)
+  pub fate : fateAt i P j ≡ started
+  pub told : slotAt i P j ≡ k
+  pub found-free : isFree (getD (settledTable i P) k []) ≡ true
+  pub holds : slot ≡ bytesOf (startedOf (reportOf (getD (i .batch) j [])) (i .sector))
+
+-- what slot k holds after the call: as it was left before any track started, or a track that some report started there
+abbrev pub LeftOrStarted : Input → List ℕ → ℕ → (left slot : List ℕ) → Type 0
+LeftOrStarted i P k left slot = (slot ≡ left) ⊎ ((j : ℕ) × StartedThere i P j k slot)
 
 -- the first entries of the answer's lists are what report j is told, and its discount
 pub record AnswersTold (i : Input) (c : Chosen) (l′ : Lent) (j : ℕ) : Type 0 where
@@ -99,6 +120,28 @@ pub record Accounted (i : Input) (c : Chosen) (l′ : Lent) (counts : Counts) : 
   pub as-scored : counts .«score_sum» ≡ scoreSum (sectorSheet i) (at (c .pairing))
   -- held slots after = before + started - dropped, said with the dropped ones on the other side
   pub slots : heldCount (l′ .table) + counts .dropped ≡ heldCount (i .table) + counts .started
+
+-- ---- the three calls
+
+-- the first entries of what a pairing call wrote, as many as the sector has due tracks and reports
+abbrev pub firstOf : Input → (pairing prices discounts : List ℕ) → Chosen
+firstOf i p u v = record { pairing = take (tracksOf i) p; prices = take (tracksOf i) u; discounts = take (reportsOf i) v }
+
+-- room in a pairing call's lists for a sector's pairing, prices and discounts
+pub record RoomToPair (i : Input) (p u v : List ℕ) : Type 0 where
+  pub for-pairing : tracksOf i ≤ length p
+  pub for-prices : tracksOf i ≤ length u
+  pub for-discounts : reportsOf i ≤ length v
+
+-- the pairing call is done, and a sector call may choose what it wrote
+pub record Together (i : Input) (p′ u′ v′ : List ℕ) (answer : Paired) : Type 0 where
+  pub done : answer ≡ paired-call.Done
+  pub choice : Choice i (firstOf i p′ u′ v′)
+
+-- a sector call and a sheet call are refused by the same numbers of 1 to 8
+pub record RefusedAlike (answer : Served) (sheeted : Sheeted) (k : ℕ) : Type 0 where
+  pub by-sheet : answer ≡ Refused k → sheeted ≡ sheet-call.Refused k
+  pub by-sector : sheeted ≡ sheet-call.Refused k → answer ≡ Refused k
 
 -- ---- a call as a whole
 

@@ -28,7 +28,7 @@ due-is-due i n h =
     let e : dueSlot i n - 0 ≡ dueSlot i n = omega arith in
     rw e at (named slotDue 0 (i .table) [] n h .kind)
 
-due-held : (slot : List ℕ) → slotDue slot ≡ true → at slot markAt ≡ held
+pub due-held : (slot : List ℕ) → slotDue slot ≡ true → at slot markAt ≡ held
 unfolding slotDue
 due-held slot e = eqb-true _ _ (and-left _ (eqb (at slot waitAt) 0) e)
 

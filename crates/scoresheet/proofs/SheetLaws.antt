@@ -53,7 +53,7 @@ unfolding cellOf
 cell-below NotAdmissible h n = absurd (n refl)
 cell-below (Score x) h n = h x refl
 
--- the pairing call never refuses a sector's own sheet
+-- few enough tracks, and each admissible pair of a sector's own sheet has a score
 pub sheet-in-range : (i : Input) → Ready i → InRange (sectorSheet i)
 unfolding sectorSheet tracksOf
 sheet-in-range i r = record {

@@ -17,7 +17,7 @@ use Rattle.records.specs.Bytes.{at, slotBytes, waitAt, markAt, trackOf, slotDue
 use Rattle.records.proofs.RoundTrips.{Bytes}
 use Rattle.sector.specs.Serve.{Lent}
 use Rattle.turns.specs.Calls.{Accepted, Calls, no-more, one-more, slotAt, WaitsOn, ServedIn, TurnSet, StillThere, DueAt}
-use Rattle.turns.proofs.Table.{known, accepted-leaves-good}
+use Rattle.turns.proofs.Table.{was-ready, accepted-leaves-good}
 use Rattle.turns.proofs.Slot.{mark-kept, wait-stored, waits-one-less, served-waits}
 
 -- the table keeps its number of slots over many calls
@@ -26,11 +26,11 @@ slots-kept no-more = refl
 slots-kept (one-more c o a) = accepted-leaves-good a .slots-same ∙ ap length (o .table) ∙ slots-kept c
 
 -- a track is due just when its wait has run out
-due-is : (slot : List ℕ) → at slot markAt ≡ held → slotDue slot ≡ eqb (at slot waitAt) 0
+pub due-is : (slot : List ℕ) → at slot markAt ≡ held → slotDue slot ≡ eqb (at slot waitAt) 0
 unfolding slotDue
 due-is slot m = rw m
 
-runs-out : (w n rest : ℕ) → rest + n ≡ w → eqb rest 0 ≡ eqb n w
+pub runs-out : (w n rest : ℕ) → rest + n ≡ w → eqb rest 0 ≡ eqb n w
 runs-out w n rest e = go (eqb n w) refl
   where
     go : (b : Bool) → eqb n w ≡ b → eqb rest 0 ≡ b
@@ -104,4 +104,4 @@ served-due-again {l} {l′} a k w b = rw (← j-is) (record {
     meets = from-here (l .sector) _ _ (t .turn-comes)
 
     j-is : at (slotAt l′ k) waitAt + 1 ≡ callsAhead (l .sector) (sectorOf (trackOf (slotAt l′ k) .azimuth))
-    j-is = ahead-only (l .sector) _ _ (known a .is-ready .sector-in) (omega (arith, meets)) (t .not-sooner) (omega (arith, t .not-later)) meets
+    j-is = ahead-only (l .sector) _ _ (was-ready a .sector-in) (omega (arith, meets)) (t .not-sooner) (omega (arith, t .not-later)) meets

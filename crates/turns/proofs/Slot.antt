@@ -1,10 +1,10 @@
 -- One accepted call, seen by one slot. Assumes nothing.
 use Prim.Native.Nat.{ℕ, _-_, _<_}
-use mathlib.Core.Path.{_≡_, refl, sym, ap, _∙_}
+use mathlib.Core.Path.{_≡_, refl, sym, _∙_}
 use mathlib.Core.Bool.{Bool, true, false, cond}
 use mathlib.Core.List.{List, []}
 use native.Mathlib.Omega.{arith}
-use borrow.Author.Tests.{ltb-true, ltb-false, eqb-true, eqb-false, ne-eqb}
+use borrow.Author.Tests.{ltb-true, ltb-false, eqb-true, eqb-false, eq-eqb, ne-eqb}
 use lib.Dec.{eqb, ltb}
 use lib.ListN.{length, getD, set}
 use lib.Seq.{getD-set-same, getD-set-other, set-out}
@@ -20,25 +20,21 @@ use Rattle.records.proofs.Checked.{slot-well-formed, sound}
 use Rattle.records.proofs.RoundTrips.{Bytes, unpack-pack}
 use Rattle.settling.specs.declared.Unpaired.{Unpaired}
 use Rattle.settling.specs.declared.Unpaired.the-variants.{Kept, Dropped}
-use Rattle.settling.specs.Settle.{coastedOf}
+use Rattle.settling.specs.Settle.{coastedOf, agedOf}
 use Rattle.settling.proofs.HandedOn.{Served, updated-served, coasted-served, started-served}
 use Rattle.matching.specs.Pairing.{none}
 use Rattle.intake.specs.Refusals.{Input, Ready}
 use Rattle.walk.specs.Table.{freed, pairedSlot, missedSlot, agedSlot, settledSlot, settledTable}
 use Rattle.walk.specs.Counting.{SlotSettles}
 use Rattle.walk.proofs.Slots.{due-track, waits-on, aged-byte, missed-kept, missed-dropped}
-use Rattle.walk.proofs.Settled.{rankOf, settled-at, settles-at}
+use Rattle.walk.proofs.Settled.{rankOf, track-mark, settled-at, settles-at}
 use Rattle.fates.specs.Fates.{Handed, isFree, freeSlot, afterReport, reportNumbers, startedTable}
 use Rattle.laws.proofs.Rounds.{all-keep}
-use Rattle.fates.proofs.Starts.{GoodReports, report-keeps, held-slots-kept}
-use Rattle.sector.specs.Serve.{Lent, handedIn, reportsIn, afterOf}
+use Rattle.fates.proofs.Starts.{mark-packed, GoodReports, report-keeps}
+use Rattle.sector.specs.Serve.{Lent, handedIn, reportsIn}
+use Rattle.promises.proofs.Slots.{left-slot, kept}
 use Rattle.turns.specs.Calls.{Accepted, slotAt, WaitsOn, ServedIn, TurnSet}
-use Rattle.turns.proofs.Table.{known, names, good-reports}
-
--- the slot as the reports left it
-pub left-slot : {l l′ : Lent} (a : Accepted l l′) (k : ℕ) → slotAt l′ k ≡ getD (startedTable (reportsIn (handedIn l (a .site) (a .batch))) (known a .chosen .pairing) (settledTable (handedIn l (a .site) (a .batch)) (known a .chosen .pairing))) k []
-unfolding afterOf
-left-slot a k = ap (λ (x : Lent). slotAt x k) (known a .left)
+use Rattle.turns.proofs.Table.{outcome, was-ready, names, good-reports}
 
 -- ---- a track that waits
 
@@ -57,36 +53,31 @@ is-free : (slot : List ℕ) → eqb (at slot markAt) free ≡ true → isFree sl
 unfolding isFree
 is-free slot e = e
 
-track-held : (slot : List ℕ) → trackOf slot .mark ≡ held → at slot markAt ≡ held
-unfolding trackOf
-track-held slot e = e
-
 -- it is aged, whatever the pairing
 pub not-due-ages : (s : ℕ) (batch : List (List ℕ)) (P slot : List ℕ) (rank : ℕ) → slotDue slot ≡ false → settledSlot s batch P slot rank ≡ agedSlot slot
 unfolding settledSlot
 not-due-ages s batch P slot rank d = rw d
 
--- A slot that holds a track at entry and is not due has the same bytes after the call but for the wait, which is 1 less.
-pub waits-one-less : {l l′ : Lent} → Accepted l l′ → (k : ℕ) → k < length (l .table) → Bytes slotBytes (slotAt l k) → at (slotAt l k) markAt ≡ held → slotDue (slotAt l k) ≡ false → WaitsOn 1 (slotAt l k) (slotAt l′ k)
-waits-one-less {l} {l′} a k h b m d = record {
-  only-wait = whole;
-  less = rw (whole, wait-stored slot (at slot waitAt - 1) b) (omega (arith, waits-on slot d m));
-}
+-- and then holds the same track
+pub aged-held : (slot : List ℕ) → at slot markAt ≡ held → at (agedSlot slot) markAt ≡ held
+unfolding agedSlot agedOf trackOf
+aged-held slot m = rw (eq-eqb (at slot markAt) held m, mark-packed (agedOf (trackOf slot))) m
+
+-- a slot that holds a track at entry and is not due is aged
+pub ages : {l l′ : Lent} → Accepted l l′ → (k : ℕ) → k < length (l .table) → at (slotAt l k) markAt ≡ held → slotDue (slotAt l k) ≡ false → slotAt l′ k ≡ agedSlot (slotAt l k)
+ages {l} {l′} a k h m d = kept i l l′ _ (outcome a) k (rw aged (held-not-free _ (aged-held (slotAt l k) m))) ∙ aged
   where
     i : Input
     i = handedIn l (a .site) (a .batch)
 
-    P : List ℕ
-    P = known a .chosen .pairing
+    aged : getD (settledTable i (outcome a .chosen .pairing)) k [] ≡ agedSlot (slotAt l k)
+    aged = settled-at i _ k h ∙ not-due-ages (i .sector) (i .batch) _ (slotAt l k) (rankOf (i .table) k) d
 
-    slot : List ℕ
-    slot = slotAt l k
-
-    aged : getD (settledTable i P) k [] ≡ set slot waitAt (at slot waitAt - 1)
-    aged = settled-at i P k h ∙ not-due-ages (i .sector) (i .batch) P slot (rankOf (i .table) k) d ∙ aged-byte slot b m
-
-    whole : slotAt l′ k ≡ set slot waitAt (at slot waitAt - 1)
-    whole = left-slot a k ∙ held-slots-kept (reportsIn i) P (settledTable i P) k (rw aged (held-not-free _ (mark-kept slot _ ∙ m))) ∙ aged
+-- A slot that holds a track at entry and is not due has the same bytes after the call but for the wait, which is 1 less.
+pub waits-one-less : {l l′ : Lent} → Accepted l l′ → (k : ℕ) → k < length (l .table) → Bytes slotBytes (slotAt l k) → at (slotAt l k) markAt ≡ held → slotDue (slotAt l k) ≡ false → WaitsOn 1 (slotAt l k) (slotAt l′ k)
+waits-one-less {l} {l′} a k h b m d =
+    let whole : slotAt l′ k ≡ set (slotAt l k) waitAt (at (slotAt l k) waitAt - 1) = ages a k h m d ∙ aged-byte (slotAt l k) b m in
+    record { only-wait = whole; less = rw (whole, wait-stored (slotAt l k) (at (slotAt l k) waitAt - 1) b) (omega (arith, waits-on (slotAt l k) d m)) }
 
 -- ---- a track that the call served or started
 
@@ -127,7 +118,7 @@ fresh-aged {s} {batch} {P} {slot} {rank} w n = rw (ne-eqb (at slot markAt) held 
   where
     go : (b : Bool) → eqb (at slot markAt) free ≡ b → Fresh s slot
     go true e = fresh-free s slot (is-free slot e)
-    go false e = absurd (n (track-held slot (slot-well-formed slot s (w .slot-good) (eqb-false (at slot markAt) free e) .is-held)))
+    go false e = absurd (n (track-mark slot (slot-well-formed slot s (w .slot-good) (eqb-false (at slot markAt) free e) .is-held)))
 
 -- so every slot that did not hold a waiting track, as pairing leaves it
 fresh-settled : {s : ℕ} {batch : List (List ℕ)} {P slot : List ℕ} {rank : ℕ} → SlotSettles s batch P slot rank → (at slot markAt ≡ held → slotDue slot ≡ true) → Fresh s (settledSlot s batch P slot rank)
@@ -142,7 +133,7 @@ fresh-settled {s} {batch} {P} {slot} {rank} w n = go (slotDue slot) refl (eqb (a
     go false d e q = fresh-aged w (λ m. clash (n m) d)
 
 -- what holds of slot k, and of what is stored in any slot, holds of slot k after
-pub set-keeps : (R : List ℕ → Type 0) (k j : ℕ) (table : List (List ℕ)) (v : List ℕ) → R (getD table k []) → R v → R (getD (set table j v) k [])
+set-keeps : (R : List ℕ → Type 0) (k j : ℕ) (table : List (List ℕ)) (v : List ℕ) → R (getD table k []) → R v → R (getD (set table j v) k [])
 set-keeps R k j table v q w = go (eqb k j) refl (ltb k (length table)) refl
   where
     go : (b : Bool) → eqb k j ≡ b → (c : Bool) → ltb k (length table) ≡ c → R (getD (set table j v) k [])
@@ -174,16 +165,16 @@ served-waits {l} {l′} a k w = record {
     i = handedIn l (a .site) (a .batch)
 
     P : List ℕ
-    P = known a .chosen .pairing
+    P = outcome a .chosen .pairing
 
     r : Ready i
-    r = known a .is-ready
+    r = was-ready a
 
     settled : Fresh (l .sector) (getD (settledTable i P) k [])
-    settled = rw (settled-at i P k (w .lies)) (fresh-settled (settles-at i P r (names (known a .choice)) k (w .lies)) (w .was-due))
+    settled = rw (settled-at i P k (w .lies)) (fresh-settled (settles-at i P r (names (outcome a .choice)) k (w .lies)) (w .was-due))
 
     left : Fresh (l .sector) (slotAt l′ k)
-    left = rw (left-slot a k) (fresh-started (reportsIn i) P (settledTable i P) k (r .sector-in) (good-reports r) settled)
+    left = rw (left-slot i l l′ _ (outcome a) k) (fresh-started (reportsIn i) P (settledTable i P) k (r .sector-in) (good-reports r) settled)
 
     t : Served (trackOf (slotAt l′ k)) (l .sector)
     t = left .served (held-not-free (slotAt l′ k) (w .is-held))

@@ -1,7 +1,7 @@
 -- What a served call leaves is fit for the next call. Assumes nothing.
 use Prim.Native.Nat.{ℕ, suc, _<_}
 use mathlib.Core.Path.{_≡_, refl, sym, _∙_}
-use mathlib.Core.Bool.{Bool, true, false, cond}
+use mathlib.Core.Bool.{Bool, true, false}
 use mathlib.Core.List.{List, [], _∷_}
 use native.Mathlib.Nat.{le-of-eq}
 use native.Mathlib.Omega.{arith}
@@ -18,7 +18,7 @@ use Rattle.records.specs.Fields.{trackFields}
 use Rattle.records.specs.Bytes.{badSlotField}
 use Rattle.records.proofs.Checked.{sound}
 use Rattle.matching.proofs.Theorems.{zero-certificate}
-use Rattle.intake.specs.Refusals.{Input, mostSlots, slotBad, noneOf, demands, faultOf, refusalOf, Ready}
+use Rattle.intake.specs.Refusals.{Input, mostSlots, slotBad, noneOf, demands, refusalOf, Ready}
 use Rattle.intake.proofs.Readiness.{ready, fault-means, not-refused}
 use Rattle.scoresheet.specs.Cells.{cellsOf, tracksOf, reportsOf}
 use Rattle.walk.specs.Table.{settledTable}
@@ -27,7 +27,8 @@ use Rattle.walk.proofs.Settled.{settled-length, settled-good}
 use Rattle.fates.proofs.Starts.{AllGood, GoodReports, started-length, started-good}
 use Rattle.sector.specs.declared.Served.{Served}
 use Rattle.sector.specs.declared.Served.the-variants.{Refused}
-use Rattle.sector.specs.Serve.{ServesSector, Lent, handedIn, roomFor, sectorRefusal, Chosen, Choice, reportsIn, afterOf}
+use Rattle.sector.specs.Serve.{ServedWith, ServesSector, Lent, handedIn, roomFor, sectorRefusal, Chosen, Choice, reportsIn, afterOf}
+use Rattle.promises.proofs.Together.{by-fault}
 use Rattle.turns.specs.Calls.{Accepted, HandsOn, LeftGood, OfTable, is-1, is-2, is-4}
 
 -- a pairing that the check accepts names, for each due track, a report that is there or none
@@ -62,45 +63,26 @@ handed-on-good i l c r q = record {
 
 -- ---- an accepted call
 
--- what is known of it: it was ready, and it left the settled table with new tracks
-pub record Known (l l′ : Lent) (site : Site) (batch : List (List ℕ)) : Type 0 where
-  pub is-ready : Ready (handedIn l site batch)
-  pub chosen : Chosen
-  pub choice : Choice (handedIn l site batch) chosen
-  pub left : l′ ≡ afterOf (handedIn l site batch) l chosen
+-- what was promised of it: its choice, and what it left
+abbrev pub outcome : {l l′ : Lent} (a : Accepted l l′) → ServedWith (handedIn l (a .site) (a .batch)) l l′ (a .promise .served (a .not-refused) .counts)
+outcome a = a .promise .served (a .not-refused) .rest
 
-pub known : {l l′ : Lent} (a : Accepted l l′) → Known l l′ (a .site) (a .batch)
+-- and it was ready
+pub was-ready : {l l′ : Lent} (a : Accepted l l′) → Ready (handedIn l (a .site) (a .batch))
 unfolding sectorRefusal
-known {l} {l′} a =
-    let i : Input = handedIn l (a .site) (a .batch) in
-    let w = a .promise .served (a .not-refused) .rest in
-    record {
-      is-ready = ready i (not-refused i (roomFor i l) (a .not-refused) .0);
-      chosen = w .chosen;
-      choice = w .choice;
-      left = w .left;
-    }
+was-ready {l} a = let i : Input = handedIn l (a .site) (a .batch) in ready i (not-refused i (roomFor i l) (a .not-refused) .0)
 
 pub accepted-leaves-good : {l l′ : Lent} → Accepted l l′ → LeftGood (length (l .table)) l′
 accepted-leaves-good {l} {l′} a =
-    let w = known a in
-    rw (w .left) (handed-on-good (handedIn l (a .site) (a .batch)) l (w .chosen) (w .is-ready) (w .choice))
+    let w = outcome a in
+    rw (w .left) (handed-on-good (handedIn l (a .site) (a .batch)) l (w .chosen) (was-ready a) (w .choice))
 
 -- ---- the next call
 
 -- a demand that holds is not the one that a call is refused by
 module _ (i : Input) (room : Bool) where
-  no-fault : (k : ℕ) → getD (demands i) k true ≡ true → faultOf i ≡ suc k → ⊥
-  no-fault k e f = clash e (fault-means i k f .0)
-
   not-by : (k : ℕ) → suc k < 9 → getD (demands i) k true ≡ true → refusalOf i room ≡ suc k → ⊥
-  unfolding refusalOf
-  not-by k h e = go (eqb (faultOf i) 0) refl room
-    where
-      go : (b : Bool) → eqb (faultOf i) 0 ≡ b → (r : Bool) → cond b (cond r 0 9) (faultOf i) ≡ suc k → ⊥
-      go true z true q = omega arith
-      go true z false q = omega arith
-      go false z r q = no-fault k e q
+  not-by k h e q = clash e (fault-means i k (by-fault i room (suc k) h (λ z. omega arith) q) .0)
 
 -- the table has slots, and not too many, and none of them is malformed for the sector
 none-bad : (s : ℕ) (table : List (List ℕ)) → ((k : ℕ) → k < length table → badSlotField (getD table k []) s ≡ trackFields) → noneOf (slotBad s) table ≡ true
@@ -115,7 +97,7 @@ module _ {l l′ next : Lent} (a : Accepted l l′) (o : HandsOn l′ next) (sit
   demand-met : {number : ℕ} → OfTable number → getD (true ∷ demands (handedIn next site batch)) number true ≡ true
   unfolding demands
   demand-met is-1 =
-      let r = known a .is-ready in
+      let r = was-ready a in
       and-both (le-leb 1 (length (next .table)) (rw slots-as-before (r .some-slots))) (le-leb (length (next .table)) mostSlots (rw slots-as-before (r .few-slots)))
   demand-met is-2 = lt-ltb (next .sector) sectors (rw (o .sector) (accepted-leaves-good a .sector-in))
   demand-met is-4 = none-bad (next .sector) (next .table) (rw (o .table, o .sector) (accepted-leaves-good a .slots-good))

@@ -1,15 +1,17 @@
 -- Accepted sector calls, one after another (01, 'Numbers carried': a wait counts accepted calls). Assumes nothing.
 use Prim.Native.Nat.{ℕ, suc, _+_, _-_, _%_, _≤_, _<_}
 use mathlib.Core.Path.{_≡_}
-use mathlib.Core.Bool.{true}
+use mathlib.Core.Bool.{Bool, true, _&&_}
 use mathlib.Core.List.{List, []}
 use lib.Dec.{eqb}
 use lib.ListN.{length, getD, set}
+use Rattle.laws.specs.Lists.{indicesFrom}
 use Rattle.numbers.specs.Scales.{sectors, soonest}
 use Rattle.numbers.specs.Sectors.{sectorOf, nextSector}
 use Rattle.records.specs.declared.Site.{Site}
+use Rattle.records.specs.declared.Track.{Track}
 use Rattle.records.specs.Fields.{held, waitMost, trackFields}
-use Rattle.records.specs.Bytes.{at, waitAt, markAt, trackOf, badSlotField, slotDue}
+use Rattle.records.specs.Bytes.{at, waitAt, markAt, trackOf, bytesOf, badSlotField, slotDue}
 use Rattle.fates.specs.Fates.{paired, started}
 use Rattle.sector.specs.declared.Served.{Served}
 use Rattle.sector.specs.Serve.{Lent, handedIn, sectorRefusal, ServesSector}
@@ -62,6 +64,11 @@ pub record ServedIn (l l′ : Lent) (k : ℕ) : Type 0 where
   pub is-held : at (slotAt l′ k) markAt ≡ held
   pub was-due : at (slotAt l k) markAt ≡ held → slotDue (slotAt l k) ≡ true
 
+-- so was the track in slot k, and the slot now holds t
+pub record ServedTo (t : Track) (l l′ : Lent) (k : ℕ) : Type 0 where
+  pub served-in : ServedIn l l′ k
+  pub holds : slotAt l′ k ≡ bytesOf t
+
 -- the fates of a report that has a track: its slot is told with it
 pub data HasTrack : ℕ → Type 0 where
   by-pair : HasTrack paired
@@ -88,3 +95,11 @@ pub record DueAt (j : ℕ) (l l′ : Lent) (k : ℕ) : Type 0 where
   pub meets : (l .sector + j) % sectors ≡ sectorOf (trackOf (slotAt l′ k) .azimuth)
   pub stored : at (slotAt l′ k) waitAt + 1 ≡ j
   pub until : {n : ℕ} {last : Lent} → Calls n l′ last → n < j → StillThere n (slotAt l′ k) (slotAt last k)
+
+-- a slot that holds a track which waits n calls
+unfoldable pub waiting : ℕ → List ℕ → Bool
+waiting n slot = eqb (at slot markAt) held && eqb n (at slot waitAt)
+
+-- how many of a table's tracks do
+unfoldable pub waitingCount : ℕ → List (List ℕ) → ℕ
+waitingCount n table = length (indicesFrom (waiting n) 0 table)

@@ -75,7 +75,7 @@ freed-slot-good : (s : ℕ) → badSlotField freed s ≡ trackFields
 unfolding freed
 freed-slot-good s = free-slot-good freed s refl
 
-track-mark : (slot : List ℕ) → trackOf slot .mark ≡ held → at slot markAt ≡ held
+pub track-mark : (slot : List ℕ) → trackOf slot .mark ≡ held → at slot markAt ≡ held
 unfolding trackOf
 track-mark slot e = e
 

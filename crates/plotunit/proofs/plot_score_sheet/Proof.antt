@@ -14,10 +14,10 @@ enum-known-answer-2 : tie.Need-enum-known-answer-2
 enum-known-answer-2 c = search needs
 
 cast-t16 : tie.Need-cast-t16
-cast-t16 c = let few = small _ _ (c .before .before .before .before .before .score-sheet .ensures .0) (c .before .answer2 .given .1) in omega (arith, few .0)
+cast-t16 c = let few = small _ _ (c .before .before .before .before .before .score-sheet .ensures .0) (c .before .answer2 .given .1) in omega (arith, few .0, few .1)
 
 cast-t17 : tie.Need-cast-t17
-cast-t17 c = let few = small _ _ (c .before .before .before .before .before .score-sheet .ensures .0) (c .before .answer2 .given .1) in omega (arith, few .1)
+cast-t17 c = let few = small _ _ (c .before .before .before .before .before .score-sheet .ensures .0) (c .before .answer2 .given .1) in omega (arith, few .0, few .1)
 
 same-length : tie.Need-same-length
 same-length c = search needs
