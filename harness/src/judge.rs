@@ -36,6 +36,7 @@ pub struct Tally {
     pub most_updates: u8,
     pub files: u64,
     pub file_lines: u64,
+    pub longest_file: usize,
 }
 
 impl Tally {

@@ -203,13 +203,15 @@ fn run_case(seed: u64, number: u64, tally: &mut Tally) -> Judged<()> {
     unreachable!("the shares make a hundred")
 }
 
-/// A file for the batch program: turns of batches, at times damaged, cut or misheaded.
+/// A file for the batch program: turns of batches, at times longer than its buffers, at times damaged,
+/// cut or misheaded.
 fn some_file(g: &mut Generator) -> Vec<u8> {
     let site = some_site(g);
     let mut sky = Sky::new(g, site);
     let mut file = b"SCN\x01\x00".to_vec();
     file.extend([site.range_sigma, site.azimuth_sigma]);
-    for call in 0..g.between(0, 200) as u64 {
+    let calls = if g.one_in(10) { g.between(2_000, 8_000) } else { g.between(0, 200) };
+    for call in 0..calls as u64 {
         let batch = sky.look(g, call, (call % 32) as u8);
         file.push(batch.len() as u8);
         file.extend(batch.iter().flatten());
@@ -257,6 +259,7 @@ fn run_files(program: &str, seed: u64, tally: &mut Tally) -> Judged<()> {
             ));
         }
         tally.files += 1;
+        tally.longest_file = tally.longest_file.max(file.len());
         tally.file_lines += expected.lines().count() as u64;
     }
     Ok(())
@@ -299,7 +302,10 @@ fn print_tally(tally: &Tally, seconds: f64) {
         tally.chains, tally.chained_calls, tally.longest_chain
     );
     if tally.files > 0 {
-        println!("  {} files through the batch program, {} lines", tally.files, tally.file_lines);
+        println!(
+            "  {} files through the batch program, {} lines, the longest file of {} bytes",
+            tally.files, tally.file_lines, tally.longest_file
+        );
     }
 }
 

@@ -1,0 +1,4 @@
+// The batch program on a file that stops behind a count byte.
+fn main() {
+    batchrun::run_file();
+}
