@@ -1,0 +1,3 @@
+-- What the old filter loses, every best pairing keeps.
+pub mod Story
+pub mod Filter
