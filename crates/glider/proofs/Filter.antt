@@ -7,9 +7,9 @@ use native.Mathlib.Nat.{le-of-suc-le-suc, not-suc-le-zero}
 use native.Mathlib.Omega.{arith}
 use borrow.Author.Tests.{le-leb, lt-leb}
 use lib.ListN.{length, getD, take, drop}
-use Rattle.laws.proofs.Parts.{part-length}
+use Rattle.laws.proofs.Sums.{row-in}
 use Rattle.matching.specs.Pairing.{none}
-use Rattle.glider.specs.Nearest.{scoreIn, nearerOf, rowAt}
+use Rattle.glider.specs.Nearest.{scoreIn, nearerOf, rowAt, Filterable}
 
 -- below a list's end the default does not matter
 module _ {A : Type 0} where
@@ -48,5 +48,5 @@ module _ (m i : ℕ) (cells : List ℕ) where
   pub part-is-row : take (i * m + m - i * m) (drop (i * m) cells) ≡ rowAt m cells i
   part-is-row = ap (λ (k : ℕ). take k (drop (i * m) cells)) width
 
-  pub row-length : i * m + m ≤ length cells → length (take (i * m + m - i * m) (drop (i * m) cells)) ≡ m
-  row-length h = part-length cells (i * m) (i * m + m) h ∙ width
+pub row-room : {m n i : ℕ} {cells : List ℕ} {taken : List Bool} → Filterable m cells taken n → i < n → i * m + m ≤ length cells
+row-room {m} {n} {i} {cells} f h = row-in i n m (length cells) h (f .cells-long)

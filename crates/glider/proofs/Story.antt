@@ -27,10 +27,15 @@ use Rattle.scoresheet.specs.Call.{roomFor, sheetBy, sheetAfter}
 use Rattle.glider.specs.Nearest.{nearerOf, nearestOf, nearestFor, takenAfter, nearestFirst}
 use Rattle.glider.specs.Scene.{table, batch, scene, cells, allFree, ridge, glider, lost, kept}
 
--- The sheet call gives the scene these cells, whatever the four that were lent held.
+-- The scene's score sheet.
+pub cells-are : cellsOf scene ≡ cells
+unfolding dueSlots indicesFrom cellsOf rowsOf rowOf pairCell cellOf table batch bytesOf reportBytesOf trackOf reportOf speedOf signed16 remainder slotDue sureConfidence sureQuality isWeak scoreOf zoneOf withinSigmas withinOuter rangeOff azimuthOff azimuthDifference worthOf pairPosition positionOf largest reaches dopplerOf dopplerAgrees dopplerNear circularDistance ageOf updatesAge trustOf confidenceTrust qualityTrust
+cells-are = refl
+
+-- The sheet call gives it, whatever the four cells that were lent held.
 pub scene-cells : (a b c d : ℕ) → sheetAfter scene (a ∷ b ∷ c ∷ d ∷ []) ≡ cells
-unfolding sheetAfter sheetBy roomFor refusalOf faultOf numberOf demands noneOf slotBad reportBad reportElsewhere dueSlots indicesFrom firstIndex cellsOf rowsOf rowOf pairCell cellOf tracksOf reportsOf table batch bytesOf reportBytesOf trackOf reportOf speedOf signed16 remainder badSlotField slotDue badTrackField trackRules allowance badReportField reportRules sectorOf scoreOf zoneOf withinSigmas withinOuter rangeOff azimuthOff azimuthDifference worthOf pairPosition positionOf largest reaches dopplerOf dopplerAgrees isWeak sureConfidence sureQuality dopplerNear circularDistance ageOf updatesAge trustOf confidenceTrust qualityTrust
-scene-cells a b c d = refl
+unfolding sheetAfter sheetBy roomFor refusalOf faultOf numberOf demands noneOf slotBad reportBad reportElsewhere dueSlots indicesFrom firstIndex tracksOf reportsOf table batch bytesOf reportBytesOf trackOf reportOf speedOf signed16 remainder badSlotField slotDue badTrackField trackRules allowance badReportField reportRules sectorOf
+scene-cells a b c d = rw cells-are
 
 -- Nearest first, the ridge's track takes the glider's return, and the glider's track has none.
 pub nearest-first-loses-the-glider : nearestFirst 2 2 cells allFree ≡ lost

@@ -76,3 +76,7 @@ lost = glider ∷ none ∷ []
 -- and what we do: each track has its own
 abbrev pub kept : List ℕ
 kept = ridge ∷ glider ∷ []
+
+-- both were established before, so both returns are shown
+abbrev pub bothShown : List ℕ
+bothShown = 1 ∷ 1 ∷ []

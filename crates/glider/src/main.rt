@@ -1,14 +1,13 @@
 // The glider over the ridge: two due tracks, two returns. What the old filter, nearest report first in table order, makes of them,
 // and what the pairing call and the sector call make of them.
 ghost use mathlib.Core.Path.{_≡_};
-ghost use mathlib.Core.Bool.{Bool, true, false};
-ghost use mathlib.Core.List.{[], _∷_};
-ghost use Prim.Native.Nat.{ℕ, _*_, _≤_, _<_};
+ghost use mathlib.Core.Bool.{true};
+ghost use Prim.Native.Nat.{_≤_, _<_};
 ghost use lib.ListN.{length, set};
 ghost use Rattle.records.specs.Bytes.{bytesOf, reportBytesOf};
-ghost use Rattle.numbers.specs.Scales.{rangeSpeedMost};
+ghost use Rattle.numbers.specs.Scales.{rangeSpeedMost, azimuthSpeedMost};
 ghost use Rattle.glider.specs.Nearest.{scoreIn, nearerOf, nearestOf, nearestFirst, Filterable};
-ghost use Rattle.glider.specs.Scene.{trackAt, returnAt, table, batch, cells, lost, kept};
+ghost use Rattle.glider.specs.Scene.{trackAt, returnAt, table, batch, site, cells, lost, kept, bothShown};
 ghost use Rattle.matching.specs.Pairing.{mostReports};
 use libc::STDOUT_FILENO;
 use matching::NONE;
@@ -110,7 +109,7 @@ fn track(
     updates: u8,
     quality: u8,
 ) -> [u8; records::SLOT_BYTES]
-    requires { ⌜ («range_speed» ≤ rangeSpeedMost) × («azimuth_speed» ≤ rangeSpeedMost) ⌝ }
+    requires { ⌜ («range_speed» ≤ rangeSpeedMost) × («azimuth_speed» ≤ azimuthSpeedMost) ⌝ }
     ensures { λ r. ⌜ r ≡ bytesOf (trackAt range azimuth «range_speed» «azimuth_speed» updates quality) ⌝ }
 {
     let range_speed = numbers::whole(range_speed);
@@ -143,8 +142,8 @@ fn report(range: u32, azimuth: u16, quality: u8, doppler: u8) -> [u8; records::R
     })
 }
 
-fn site() -> Site
-    ensures { λ r. ⌜ r ≡ Rattle.glider.specs.Scene.site ⌝ }
+fn sigmas() -> Site
+    ensures { λ r. ⌜ r ≡ site ⌝ }
 {
     Site {
         range_sigma: SIGMA,
@@ -176,7 +175,7 @@ fn sheet() -> [u32; CELLS]
     let table = tracks();
     let batch = returns();
     let mut sheet = [0u32; CELLS];
-    scoresheet::score_sheet(&table, SECTOR, site(), &batch, &mut sheet);
+    scoresheet::score_sheet(&table, SECTOR, sigmas(), &batch, &mut sheet);
     sheet
 }
 
@@ -211,7 +210,9 @@ fn ours() -> [u32; TRACKS]
 }
 
 // The marks of the returns that the sector call shows.
-fn marks() -> [u8; REPORTS] {
+fn marks() -> [u8; REPORTS]
+    ensures { λ r. ⌜ r ≡ bothShown ⌝ }
+{
     let mut table = tracks();
     let batch = returns();
     let mut sector = SECTOR;
@@ -223,7 +224,7 @@ fn marks() -> [u8; REPORTS] {
     sector::serve_sector(
         &mut table,
         &mut sector,
-        site(),
+        sigmas(),
         &batch,
         &mut fates,
         &mut slots,

@@ -9,11 +9,10 @@ use mathlib.Core.Bool.{Bool}
 use mathlib.Core.List.{List, append-nil}
 use lib.ListN.{length}
 use lib.Seq.{drop-length}
-use Rattle.laws.proofs.Sums.{row-in}
 use Rattle.laws.proofs.Fold.{Answered, answered-none}
 use Rattle.laws.proofs.Rounds.{numbers, told-more, told-end}
 use Rattle.glider.specs.Nearest.{nearestFor, takenAfter, nearestFirst}
-use Rattle.glider.proofs.Filter.{part-is-row}
+use Rattle.glider.proofs.Filter.{part-is-row, row-room}
 use Rattle.glider.proofs.nearest_first.Statement.{statement}
 use Rattle.glider.proofs.nearest_first.Tie as tie
 
@@ -31,23 +30,26 @@ abbrev μ-loop : tie.MeasureT-loop
 loop-holds : tie.Need-loop-holds Inv-loop μ-loop
 loop-holds c = record { upto = omega arith; marks = refl; so = answered-none _ _ _ _ _ }
 
+part-nearest-free-end : tie.Need-part-nearest-free-end Inv-loop μ-loop
+part-nearest-free-end c =
+    let start = c .before .before .before .before .before in
+    let h : c .before .loop .track < length (start .args .pairing .now) = omega (arith, c .before .loop .inv .so .so .same) in
+    row-room (start .pre) h
+
 mul-from : tie.Need-mul-from Inv-loop μ-loop
-mul-from c = omega (arith, row-in (c .before .loop .track) (length (c .before .before .before .before .before .args .pairing .now)) (c .before .before .before .before .before .args .reports) (length (c .before .before .before .before .before .args .sheet .now)) (omega (arith, c .before .loop .inv .so .so .same)) (c .before .before .before .before .before .pre .cells-long))
+mul-from c = omega (arith, part-nearest-free-end c)
 
 add-to : tie.Need-add-to Inv-loop μ-loop
-add-to c = omega (arith, row-in (c .before .loop .track) (length (c .before .before .before .before .before .args .pairing .now)) (c .before .before .before .before .before .args .reports) (length (c .before .before .before .before .before .args .sheet .now)) (omega (arith, c .before .loop .inv .so .so .same)) (c .before .before .before .before .before .pre .cells-long))
+add-to c = omega (arith, part-nearest-free-end c)
 
 mul-nearest-free : tie.Need-mul-nearest-free Inv-loop μ-loop
-mul-nearest-free c = omega (arith, row-in (c .before .loop .track) (length (c .before .before .before .before .before .args .pairing .now)) (c .before .before .before .before .before .args .reports) (length (c .before .before .before .before .before .args .sheet .now)) (omega (arith, c .before .loop .inv .so .so .same)) (c .before .before .before .before .before .pre .cells-long))
+mul-nearest-free c = omega (arith, part-nearest-free-end c)
 
 sub-nearest-free : tie.Need-sub-nearest-free Inv-loop μ-loop
 sub-nearest-free c = search needs
 
 part-nearest-free-start : tie.Need-part-nearest-free-start Inv-loop μ-loop
 part-nearest-free-start c = search needs
-
-part-nearest-free-end : tie.Need-part-nearest-free-end Inv-loop μ-loop
-part-nearest-free-end c = row-in (c .before .loop .track) (length (c .before .before .before .before .before .args .pairing .now)) (c .before .before .before .before .before .args .reports) (length (c .before .before .before .before .before .args .sheet .now)) (omega (arith, c .before .loop .inv .so .so .same)) (c .before .before .before .before .before .pre .cells-long)
 
 nearest-free-requires : tie.Need-nearest-free-requires Inv-loop μ-loop
 nearest-free-requires c κs = search needs

@@ -13,8 +13,8 @@ returns-requires c κs = search needs
 slice-aggregate-score-sheet : tie.Need-slice-aggregate-score-sheet
 slice-aggregate-score-sheet c = search needs
 
-site-requires : tie.Need-site-requires
-site-requires c κs = search needs
+sigmas-requires : tie.Need-sigmas-requires
+sigmas-requires c κs = search needs
 
 slice-aggregate-score-sheet-2 : tie.Need-slice-aggregate-score-sheet-2
 slice-aggregate-score-sheet-2 c = search needs
@@ -26,7 +26,7 @@ score-sheet-requires : tie.Need-score-sheet-requires
 score-sheet-requires c κs = search needs
 
 returns : tie.Need-returns
-returns c = c .before .score-sheet .ensures .1 ∙ rw (c .before .before .before .before .before .before .before .tracks .ensures, c .before .before .before .before .before .before .returns .ensures, c .before .before .before .before .site .ensures) (scene-cells 0 0 0 0)
+returns c = c .before .score-sheet .ensures .1 ∙ rw (c .before .before .before .before .before .before .before .tracks .ensures, c .before .before .before .before .before .before .returns .ensures, c .before .before .before .before .sigmas .ensures) (scene-cells 0 0 0 0)
 
 pub sheet-spec : {M : Type 1} → statement M
 sheet-spec =
@@ -35,7 +35,7 @@ sheet-spec =
     tracks-requires
     returns-requires
     slice-aggregate-score-sheet
-    site-requires
+    sigmas-requires
     slice-aggregate-score-sheet-2
     slice-aggregate-score-sheet-3
     score-sheet-requires
