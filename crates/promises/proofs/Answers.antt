@@ -1,30 +1,25 @@
 -- The answer of a served call, entry by entry, and what the controller sees: the glider that is no longer lost. Assumes nothing.
-use Prim.Native.Nat.{ℕ, _+_, _<_}
-use mathlib.Core.Path.{_≡_, refl, sym, ap, _∙_}
+use Prim.Native.Nat.{ℕ, _<_}
+use mathlib.Core.Path.{_≡_, refl, sym, _∙_}
 use mathlib.Core.Logic.{⊎-elim}
-use mathlib.Core.Bool.{false, cond}
-use mathlib.Core.List.{List, [], _∷_, _++_}
-use native.Mathlib.Omega.{arith}
-use lib.ListN.{length, getD, take, drop, List·getD-append}
+use mathlib.Core.Bool.{false}
+use mathlib.Core.List.{List, [], _++_}
+use lib.ListN.{length, getD, drop, List·getD-append}
 use lib.Seq.{ext-getD}
-use Rattle.laws.specs.Lists.{afterAll}
-use Rattle.laws.proofs.Fold.{length-outs}
 use Rattle.laws.proofs.Stores.{same-or}
 use Rattle.records.specs.Bytes.{slotDue}
 use Rattle.matching.specs.Pairing.{none, Paired, ValidPairing, at}
-use Rattle.intake.specs.Refusals.{Input, dueSlots}
+use Rattle.intake.specs.Refusals.{Input}
 use Rattle.scoresheet.specs.Cells.{tracksOf, reportsOf, sectorSheet}
 use Rattle.scoresheet.proofs.Due.{due-lies, due-is-due}
-use Rattle.walk.specs.Table.{dueRank, slotPrice, settledTable, slotPrices}
-use Rattle.laws.proofs.Ranks.{outs-at}
-use Rattle.walk.proofs.Settled.{rankOf}
+use Rattle.walk.specs.Table.{slotPrice, settledTable, slotPrices}
+use Rattle.walk.proofs.Settled.{rankOf, prices-length, price-at}
 use Rattle.fates.specs.Fates.{slotsOf, shownOf}
 use Rattle.fates.proofs.Answers.{length-fates, length-slots, length-shown}
 use Rattle.sector.specs.declared.Counts.{Counts}
 use Rattle.sector.specs.Serve.{Lent, Chosen, Choice, reportsIn, fatesIn, afterOf, ServedWith}
 use Rattle.promises.specs.Words.{slotOfDue, TrackServed, SeenServed, AnswersTold}
 use Rattle.promises.proofs.Pairings.{valid-pairing, every-due-track-is-paired}
-use Rattle.promises.proofs.Tallies.{count, count-none, count-cons}
 use Rattle.promises.proofs.Reports.{rank-is, pairing-is-read-off, shown-exactly-when}
 use Rattle.promises.proofs.Slots.{paired-slot-after}
 
@@ -83,22 +78,10 @@ glider i l l′ counts s Q q all n b =
 
 -- ---- prices
 
--- the rank that the prices are counted by
-ranks : (slots : List (List ℕ)) (s : ℕ) → afterAll dueRank slots s ≡ s + count slotDue slots
-unfolding afterAll dueRank
-ranks [] s = omega (arith, count-none slotDue)
-ranks (x ∷ slots) s = omega (arith, ranks slots (s + cond (slotDue x) 1 0), count-cons slotDue x slots)
-
-price-at : (i : Input) (u : List ℕ) (k : ℕ) → k < length (i .table) → getD (slotPrices i u) k 0 ≡ slotPrice u (getD (i .table) k []) (rankOf (i .table) k)
-unfolding slotPrices dueSlots
-price-at i u k l =
-    outs-at dueRank (slotPrice u) (i .table) 0 k [] 0 l
-    ∙ ap (slotPrice u (getD (i .table) k [])) (ranks (take k (i .table)) 0 ∙ omega arith)
-
 price-in-answer : (i : Input) (l : Lent) (c : Chosen) (k : ℕ) → k < length (i .table) → getD (afterOf i l c .prices) k 0 ≡ slotPrice (c .prices) (getD (i .table) k []) (rankOf (i .table) k)
 unfolding afterOf slotPrices
 price-in-answer i l c k h =
-    List·getD-append (slotPrices i (c .prices)) (drop (length (i .table)) (l .prices)) 0 k (rw (length-outs dueRank (slotPrice (c .prices)) (i .table) 0) h)
+    List·getD-append (slotPrices i (c .prices)) (drop (length (i .table)) (l .prices)) 0 k (rw (prices-length i (c .prices)) h)
     ∙ price-at i (c .prices) k h
 
 -- The price of the n-th due track stands at its slot, and 0 at a slot that is not due.

@@ -1,0 +1,4 @@
+-- What the old filter loses, every best pairing keeps.
+pub mod Story
+pub mod Shown
+pub mod Filter
