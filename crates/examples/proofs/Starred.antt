@@ -1,4 +1,4 @@
--- The starred examples of 01 hold, by computation. Assumes nothing.
+-- The starred examples of 01 hold, by computation.
 use mathlib.Core.Path.{_≡_, refl}
 use mathlib.Core.Bool.{true}
 use borrow.Author.Tests.{eqb-true}
@@ -14,7 +14,8 @@ use Rattle.scoring.specs.Position.{reaches, largest, positionOf}
 use Rattle.scoring.specs.Score.{pairPosition, dopplerNear, dopplerAgrees, dopplerOf, updatesAge, ageOf, confidenceTrust, qualityTrust, trustOf}
 use Rattle.scoring.specs.Score.{worthOf, scoreOf}
 use Rattle.settling.specs.Settle.{speedCorrection}
-use Rattle.matching.specs.Pairing.{total, Best, at, sheetOf}
+use Rattle.laws.specs.Lists.{at}
+use Rattle.matching.specs.Pairing.{total, Best, sheetOf}
 use Rattle.matching.specs.Answer.{sizesOk, cellsOk, pairingOk, numbersOk, scoresOk, totalsOk, sheetRefusal, checkAnswer}
 use Rattle.matching.proofs.Theorems.{zero-is-best}
 use Rattle.examples.specs.Starred.{cells, crossed, prices, discounts, starred}

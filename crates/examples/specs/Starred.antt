@@ -1,5 +1,5 @@
 -- 01, 'Examples on each side': the starred ones, in 01's order, each a test that 01's definitions give 01's number. Numbers are
--- written out as 01 has them, so that the table says what it tests. Assumes nothing.
+-- written out as 01 has them, so that the table says what it tests.
 use Prim.Native.Nat.{ℕ}
 use mathlib.Core.Bool.{Bool, true, false}
 use mathlib.Core.List.{List, [], _∷_}
@@ -16,7 +16,8 @@ use Rattle.scoring.specs.declared.Scored.the-variants.{NotAdmissible, Score}
 use Rattle.scoring.specs.Position.{positionOf}
 use Rattle.scoring.specs.Score.{dopplerOf, scoreOf}
 use Rattle.settling.specs.Settle.{speedCorrection}
-use Rattle.matching.specs.Pairing.{none, total, at, sheetOf}
+use Rattle.laws.specs.Lists.{at}
+use Rattle.matching.specs.Pairing.{none, total, sheetOf}
 use Rattle.matching.specs.Answer.{checkAnswer}
 
 -- ---- what the tests compare

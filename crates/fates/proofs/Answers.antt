@@ -1,4 +1,4 @@
--- What the answers say of the reports: each has one of four fates, and its shown mark goes by the table as pairing left it. Assumes nothing.
+-- What the answers say of the reports: each has one of four fates, and its shown mark goes by the table as pairing left it.
 use Prim.Native.Nat.{ℕ, suc, _+_, _<_}
 use mathlib.Core.Path.{_≡_, refl, _∙_}
 use mathlib.Core.Bool.{Bool, true, false, cond}

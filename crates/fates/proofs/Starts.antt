@@ -1,4 +1,4 @@
--- What the reports change in the table: tracks start in free slots, and nothing else changes. Assumes nothing.
+-- What the reports change in the table: tracks start in free slots, and nothing else changes.
 use Prim.Native.Nat.{ℕ, _<_}
 use mathlib.Core.Path.{_≡_, refl, sym, _∙_}
 use mathlib.Core.Bool.{Bool, true, false, cond}
@@ -9,7 +9,7 @@ use lib.Dec.{eqb, ltb}
 use lib.IntN.{pos}
 use lib.ListN.{length, getD, set, length-set}
 use lib.Seq.{getD-set-same, getD-set-other, set-out}
-use Rattle.laws.specs.Lists.{afterAll}
+use Rattle.laws.specs.Lists.{at, afterAll}
 use Rattle.laws.proofs.Search.{first-found}
 use Rattle.laws.proofs.Tests.{clash}
 use Rattle.numbers.specs.Scales.{turn, sectors}
@@ -18,7 +18,7 @@ use Rattle.numbers.proofs.AzimuthLaws.{Sixteen}
 use Rattle.records.specs.declared.Report.{Report}
 use Rattle.records.specs.declared.Track.{Track}
 use Rattle.records.specs.Fields.{held, trackFields, WellFormed, Sound}
-use Rattle.records.specs.Bytes.{at, markAt, bytesOf, reportOf, badSlotField}
+use Rattle.records.specs.Bytes.{markAt, bytesOf, reportOf, badSlotField}
 use Rattle.records.proofs.Checked.{all-fields-good}
 use Rattle.records.proofs.RoundTrips.{unpack-pack}
 use Rattle.settling.specs.Settle.{startedOf}

@@ -1,4 +1,4 @@
--- What is told of one report, by its fate. Assumes nothing.
+-- What is told of one report, by its fate.
 use Prim.Native.Nat.{ℕ, _≤_, _<_}
 use mathlib.Core.Path.{_≡_, refl}
 use mathlib.Core.Bool.{Bool, true, false, cond}

@@ -1,17 +1,17 @@
--- The fate of each report, its slot, and whether it is shown (01, 'After pairing'). Assumes nothing.
+-- The fate of each report, its slot, and whether it is shown (01, 'After pairing').
 use Prim.Native.Nat.{ℕ, _≤_, _<_}
 use mathlib.Core.Path.{_≡_}
 use mathlib.Core.Bool.{Bool, cond}
 use mathlib.Core.List.{List, []}
 use lib.Dec.{leb, ltb, eqb}
 use lib.ListN.{length, getD, set}
-use Rattle.laws.specs.Lists.{firstIndex, indicesFrom, afterAll, outs, listed}
+use Rattle.laws.specs.Lists.{at, firstIndex, indicesFrom, afterAll, outs, listed}
 use Rattle.records.specs.declared.Report.{Report}
 use Rattle.records.specs.Fields.{free, isWeak}
-use Rattle.records.specs.Bytes.{at, markAt, trackOf, bytesOf, reportOf}
+use Rattle.records.specs.Bytes.{markAt, trackOf, bytesOf, reportOf}
 use Rattle.numbers.specs.Scales.{sectors}
 use Rattle.settling.specs.Settle.{startedOf}
-use Rattle.intake.specs.Refusals.{mostSlots, mostReports}
+use Rattle.intake.specs.Refusals.{mostSlots, mostBatch}
 use Rattle.fates.specs.declared.Told.{Told}
 
 -- fates, as they are written (0 is never a fate)
@@ -115,7 +115,7 @@ countOf fate fates = length (indicesFrom (eqb fate) 0 fates)
 -- a pairing has an entry a due track, and each due track lies in the table
 pub record Tellable (h : Handed) (P : List ℕ) (table : List (List ℕ)) : Type 0 where
   pub few-slots : length table ≤ mostSlots
-  pub few-reports : length (h .batch) ≤ mostReports
+  pub few-reports : length (h .batch) ≤ mostBatch
   pub sector-in : h .sector < sectors
   pub entry-each : length P ≡ length (h .due)
   pub due-lies : (i : ℕ) → i < length (h .due) → getD (h .due) i 0 < length table

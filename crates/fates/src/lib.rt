@@ -6,7 +6,7 @@ ghost use Prim.Native.Nat.{_≤_, _<_};
 ghost use lib.Dec.{eqb};
 ghost use lib.ListN.{length, take, drop};
 ghost use Rattle.numbers.specs.Scales.{sectors};
-ghost use Rattle.intake.specs.Refusals.{mostSlots, mostReports};
+ghost use Rattle.intake.specs.Refusals.{mostSlots, mostBatch};
 ghost use Rattle.fates.specs.Fates.{started as Fates·started, handed, freeSlot, ownerOf, shownMark, toldUnpaired, afterUnpaired};
 ghost use Rattle.fates.specs.Fates.{toldOf, afterReport, startedTable, fatesOf, slotsOf, shownOf, countOf, Tellable, Roomy};
 use records::Report;
@@ -176,7 +176,7 @@ fn one_if(fate: u8, given: u8) -> u32
 
 // How many of the reports have a fate.
 pub fn count_fate(fates: &[u8], reports: usize, fate: u8) -> u32
-    requires { ⌜ (reports ≤ length (now fates)) × (reports ≤ mostReports) ⌝ }
+    requires { ⌜ (reports ≤ length (now fates)) × (reports ≤ mostBatch) ⌝ }
     ensures { λ r. ⌜ r ≡ countOf fate (take reports (now (fates .entry))) ⌝ }
 {
     let mut n: u32 = 0;

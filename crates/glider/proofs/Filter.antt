@@ -1,4 +1,4 @@
--- The old filter's steps. Assumes nothing.
+-- The old filter's steps.
 use Prim.Native.Nat.{ℕ, zero, suc, _+_, _-_, _*_, _≤_, _<_}
 use mathlib.Core.Path.{_≡_, refl, ap, _∙_}
 use mathlib.Core.Bool.{Bool, true, false}

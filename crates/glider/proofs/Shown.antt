@@ -1,16 +1,15 @@
--- The sector call shows both returns of the scene. Assumes nothing.
+-- The sector call shows both returns of the scene.
 use Prim.Native.Nat.{ℕ}
 use mathlib.Core.Path.{_≡_, refl, ap, _∙_}
 use mathlib.Core.List.{List, [], _∷_, _++_}
 use lib.ListN.{drop}
-use Rattle.laws.specs.Lists.{firstIndex, indicesFrom, outs}
+use Rattle.laws.specs.Lists.{at, firstIndex, indicesFrom, outs}
 use Rattle.laws.proofs.Listed.{entries}
 use Rattle.numbers.specs.Whole.{remainder}
 use Rattle.numbers.specs.Azimuth.{signed16}
 use Rattle.numbers.specs.Sectors.{sectorOf}
 use Rattle.records.specs.Fields.{allowance, trackRules, badTrackField, reportRules, badReportField}
 use Rattle.records.specs.Bytes.{speedOf, trackOf, bytesOf, reportOf, reportBytesOf, badSlotField, slotDue}
-use Rattle.matching.specs.Pairing.{at}
 use Rattle.matching.specs.Answer.{checkAnswer}
 use Rattle.matching.proofs.Theorems.{zero-is-best}
 use Rattle.intake.specs.Refusals.{slotBad, reportBad, reportElsewhere, noneOf, dueSlots, demands, numberOf, faultOf, refusalOf}

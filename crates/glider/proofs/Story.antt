@@ -1,10 +1,10 @@
--- The old filter loses the glider in the scene, and every best pairing continues both tracks. Assumes nothing.
+-- The old filter loses the glider in the scene, and every best pairing continues both tracks.
 use Prim.Native.Nat.{ℕ, zero, suc, _<_}
 use mathlib.Core.Path.{_≡_, refl, sym, ap, _∙_}
 use mathlib.Core.List.{List, [], _∷_}
 use native.Mathlib.Omega.{arith}
 use lib.ListN.{length}
-use Rattle.laws.specs.Lists.{firstIndex, indicesFrom, afterAll, outs}
+use Rattle.laws.specs.Lists.{at, firstIndex, indicesFrom, afterAll, outs}
 use Rattle.laws.specs.Tests.{each, holds}
 use Rattle.laws.proofs.Listed.{entries}
 use Rattle.numbers.specs.Whole.{remainder, circularDistance}
@@ -15,7 +15,7 @@ use Rattle.records.specs.Bytes.{speedOf, trackOf, bytesOf, reportOf, reportByte
 use Rattle.scoring.specs.Zone.{rangeOff, azimuthOff, withinSigmas, withinOuter, zoneOf}
 use Rattle.scoring.specs.Position.{reaches, largest, positionOf}
 use Rattle.scoring.specs.Score.{pairPosition, dopplerNear, dopplerAgrees, dopplerOf, updatesAge, ageOf, confidenceTrust, qualityTrust, trustOf, worthOf, scoreOf}
-use Rattle.matching.specs.Pairing.{none, Paired, ValidPairing, Best, at, sheetOf}
+use Rattle.matching.specs.Pairing.{none, Paired, ValidPairing, Best, sheetOf}
 use Rattle.matching.specs.Answer.{sizesOk, cellsOk, pairingOk, sheetRefusal}
 use Rattle.matching.proofs.Facts as facts
 use Rattle.matching.proofs.Theorems.{all-are-served, zero-is-best}

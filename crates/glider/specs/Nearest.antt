@@ -1,4 +1,4 @@
--- 01, 'Wrong turns we have seen': nearest report first, track by track. The old filter, kept for the story. Assumes nothing.
+-- 01, 'Wrong turns we have seen': nearest report first, track by track. The old filter, kept for the story.
 use Prim.Native.Nat.{ℕ, _*_, _≤_}
 use mathlib.Core.Path.{_≡_}
 use mathlib.Core.Bool.{Bool, true, cond, _||_}

@@ -1,4 +1,4 @@
--- One turn over the ridge, with the glider close by. Assumes nothing.
+-- One turn over the ridge, with the glider close by.
 use Prim.Native.Nat.{ℕ}
 use mathlib.Core.Bool.{Bool, false}
 use mathlib.Core.List.{List, [], _∷_}

@@ -1,5 +1,4 @@
 -- An answer list while a loop fills it: the first n are written, rest is to come, whole is all of it, and what lies past n is as it was.
--- Assumes nothing.
 use Prim.Native.Nat.{ℕ, _+_, _≤_, _<_}
 use mathlib.Core.Path.{_≡_, refl, ap, sym, _∙_}
 use mathlib.Core.List.{List, [], _∷_, _++_, map, append-assoc, append-nil}

@@ -1,4 +1,4 @@
--- A loop that hands a state from element to element, and may answer at each. Assumes nothing.
+-- A loop that hands a state from element to element, and may answer at each.
 use Prim.Native.Nat.{ℕ, suc, _+_, _≤_, _<_}
 use mathlib.Core.Path.{_≡_, refl, ap, sym, _∙_}
 use mathlib.Core.List.{List, [], _∷_, _++_}

@@ -1,4 +1,4 @@
--- A list while a loop maps it in place: the first i are mapped. Assumes nothing.
+-- A list while a loop maps it in place: the first i are mapped.
 use Prim.Native.Nat.{ℕ, zero, suc, _+_, _≤_, _<_}
 use mathlib.Core.Path.{_≡_, refl, ap, _∙_}
 use mathlib.Core.List.{List, [], _∷_, map}

@@ -1,4 +1,4 @@
--- A list of known length, entry by entry. Assumes nothing.
+-- A list of known length, entry by entry.
 use Prim.Native.Nat.{ℕ, zero, suc, _<_}
 use mathlib.Core.Path.{_≡_, refl, ap}
 use mathlib.Core.List.{List, [], _∷_}

@@ -1,4 +1,4 @@
--- A part of a list, from a up to e, read at each index; and a list whose part is put back changed. Assumes nothing.
+-- A part of a list, from a up to e, read at each index; and a list whose part is put back changed.
 use Prim.Native.Nat.{ℕ, _+_, _-_, _≤_, _<_}
 use mathlib.Core.Path.{_≡_, ap, sym, _∙_}
 use mathlib.Core.List.{List}

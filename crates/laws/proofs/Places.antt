@@ -1,4 +1,4 @@
--- A loop that writes at named places, and lists of places. Assumes nothing.
+-- A loop that writes at named places, and lists of places.
 use Prim.Native.Nat.{ℕ, zero, suc, _+_, _≤_, _<_}
 use mathlib.Core.Path.{_≡_, refl, sym, _∙_}
 use mathlib.Core.Bool.{Bool, true, false, cond}

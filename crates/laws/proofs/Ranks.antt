@@ -1,4 +1,4 @@
--- Laws of loops over a list: what is not written yet, an answer by its place, a place by its rank among those of its kind. Assumes nothing.
+-- Laws of loops over a list: what is not written yet, an answer by its place, a place by its rank among those of its kind.
 use Prim.Native.Nat.{ℕ, zero, suc, _+_, _-_, _≤_, _<_}
 use mathlib.Core.Path.{_≡_, refl, sym, ap, _∙_}
 use mathlib.Core.Bool.{Bool, true, false, cond}

@@ -1,4 +1,4 @@
--- Loops over the numbers below m, a search from a known place, and counts that do not depend on where they begin. Assumes nothing.
+-- Loops over the numbers below m, a search from a known place, and counts that do not depend on where they begin.
 use Prim.Native.Nat.{ℕ, zero, suc, _+_, _≤_, _<_}
 use mathlib.Core.Path.{_≡_, refl, ap}
 use mathlib.Core.Bool.{Bool, true, false, cond}

@@ -1,4 +1,4 @@
--- A loop that looks for the first place of a kind, or lists all its places. Assumes nothing.
+-- A loop that looks for the first place of a kind, or lists all its places.
 use Prim.Native.Nat.{ℕ, zero, suc, _+_, _≤_, _<_}
 use mathlib.Core.Path.{_≡_, refl, sym, _∙_}
 use mathlib.Core.List.{List, [], _∷_, _++_, append-assoc, append-nil}

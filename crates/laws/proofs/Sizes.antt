@@ -1,5 +1,4 @@
 -- The size of a signed number, natAbs, which omega reads as a number; and a difference of two naturals, by which is larger.
--- Assumes nothing.
 use Prim.Native.Nat.{ℕ, zero, suc, _+_, _-_, _*_, _≤_, _<_, min, max}
 use mathlib.Core.Path.{_≡_, refl, ap, sym}
 use mathlib.Core.Bool.{Bool, true, false, not, cond}

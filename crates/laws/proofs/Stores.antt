@@ -1,4 +1,4 @@
--- One store in a list of numbers, read at each index; and two numbers, by which is larger. Assumes nothing.
+-- One store in a list of numbers, read at each index; and two numbers, by which is larger.
 use Prim.Native.Nat.{ℕ, _+_, _-_, _≤_, _<_}
 use mathlib.Core.Logic.{_⊎_, inl, inr, ⊎-elim}
 use native.Mathlib.Nat.{eq-zero-or-pos}

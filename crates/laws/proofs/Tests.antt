@@ -1,4 +1,4 @@
--- Laws of `each`, a test of every number below n, and of `holds`, a list of tests. Assumes nothing.
+-- Laws of `each`, a test of every number below n, and of `holds`, a list of tests.
 use Prim.Native.Nat.{ℕ, zero, suc, _+_, _≤_, _<_}
 use mathlib.Core.Path.{_≡_, refl}
 use mathlib.Core.Bool.{Bool, true, false, not, _&&_, _||_}
@@ -8,7 +8,7 @@ use native.Mathlib.Nat.{suc-inj, lt-suc-self, le-step, le-antisymm, eq-or-lt-of-
 use native.Mathlib.Numerals.{add-one}
 use native.Mathlib.Omega.{arith}
 use lib.Dec.{T, ltb, ltb→lt}
-use lib.ListN.{getD, length}
+use lib.ListN.{length}
 use Rattle.laws.specs.Lists.{firstIndex}
 use Rattle.laws.specs.Tests.{each, holds, refuse}
 

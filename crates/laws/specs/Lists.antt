@@ -1,8 +1,8 @@
 -- What a loop over a list computes: the first place of a kind, all its places, a state that each element changes, an answer a step.
--- Assumes nothing.
 use Prim.Native.Nat.{ℕ, zero, suc}
 use mathlib.Core.List.{List, [], _∷_}
 use mathlib.Core.Bool.{Bool, cond}
+use lib.ListN.{getD}
 
 module _ {A : Type 0} (p : A → Bool) where
   -- the index of the first element that p holds of, or the length
@@ -32,3 +32,7 @@ module _ {A : Type 0} where
   abbrev pub listed : ℕ → (ℕ → A) → List A
   listed zero f = []
   listed (suc n) f = f 0 ∷ listed n (λ k. f (suc k))
+
+-- entry k of a list of numbers, 0 past its end
+abbrev pub at : List ℕ → ℕ → ℕ
+at xs k = getD xs k 0

@@ -1,4 +1,4 @@
--- A list that is written at places that another list names. Assumes nothing.
+-- A list that is written at places that another list names.
 use Prim.Native.Nat.{ℕ, _≤_, _<_}
 use mathlib.Core.Path.{_≡_}
 use mathlib.Core.List.{List}

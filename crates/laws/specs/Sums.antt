@@ -1,4 +1,4 @@
--- Sums over the numbers below n. Assumes nothing.
+-- Sums over the numbers below n.
 use Prim.Native.Nat.{ℕ, zero, suc, _+_}
 
 -- f 0 + f 1 + .. + f (n - 1)

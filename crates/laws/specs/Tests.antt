@@ -1,4 +1,4 @@
--- Tests of every number below n, and of every item of a list. Assumes nothing.
+-- Tests of every number below n, and of every item of a list.
 use Prim.Native.Nat.{ℕ, zero, suc}
 use mathlib.Core.Bool.{Bool, true, _&&_, cond}
 use mathlib.Core.List.{List, [], _∷_}

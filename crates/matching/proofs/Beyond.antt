@@ -1,4 +1,4 @@
--- The check's answer depends on no entry beyond those that its sheet, pairing, prices and discounts need. Assumes nothing.
+-- The check's answer depends on no entry beyond those that its sheet, pairing, prices and discounts need.
 use Prim.Native.Nat.{ℕ, _+_, _*_, _<_}
 use mathlib.Core.Path.{_≡_, refl, sym, ap, _∙_}
 use mathlib.Core.Bool.{Bool, true, false, cond, not, _||_}
@@ -10,7 +10,8 @@ use lib.ListN.{length}
 use borrow.Author.Tests.{ltb-true, eqb-false}
 use Rattle.laws.proofs.Tests.{each-same, refuse-same, and-same}
 use Rattle.laws.proofs.Sums.{sum-same}
-use Rattle.matching.specs.Pairing.{none, leftOut, total, at, Alike, sheetOf}
+use Rattle.laws.specs.Lists.{at}
+use Rattle.matching.specs.Pairing.{none, leftOut, total, Alike, sheetOf}
 use Rattle.matching.specs.Answer.{Fits, cellOk, cellsOk, entryOk, pairingOk, numbersOk, scoresOk, totalsOk, sheetRefusal, checkAnswer}
 use Rattle.matching.proofs.Facts as facts
 

@@ -1,5 +1,5 @@
 -- Prices and discounts against totals: no valid pairing's total is below what fair prices come to; and a least total is just a best
--- pairing, since no scores come to as much as one track left out. Assumes nothing.
+-- pairing, since no scores come to as much as one track left out.
 use Prim.Native.Nat.{ℕ, zero, suc, _+_, _-_, _*_, _≤_, _<_, zero-le}
 use mathlib.Core.Path.{_≡_, refl}
 use mathlib.Core.Bool.{Bool, true, false, cond}

@@ -1,4 +1,4 @@
--- An answer of each number, by computation. Assumes nothing.
+-- An answer of each number, by computation.
 use Prim.Native.Nat.{ℕ, _+_, _*_}
 use mathlib.Core.Path.{_≡_, refl}
 use mathlib.Core.Bool.{Bool, true, false, cond}
@@ -9,7 +9,8 @@ use lib.Dec.{eqb}
 use borrow.Author.Tests.{eqb-false}
 use Rattle.laws.specs.Sums.{Sum}
 use Rattle.laws.specs.Tests.{each, holds}
-use Rattle.matching.specs.Pairing.{none, scoreEnd, leftOut, total, Certificate, at, sheetOf}
+use Rattle.laws.specs.Lists.{at}
+use Rattle.matching.specs.Pairing.{none, scoreEnd, leftOut, total, Certificate, sheetOf}
 use Rattle.matching.specs.Answer.{sizesOk, cellsOk, pairingOk, numbersOk, scoresOk, totalsOk, sheetRefusal, checkAnswer}
 use Rattle.matching.proofs.Theorems.{zero-certificate}
 

@@ -1,4 +1,4 @@
--- The check's tests, as facts: what each says where it holds, and that it holds where that is so. Assumes nothing.
+-- The check's tests, as facts: what each says where it holds, and that it holds where that is so.
 use Prim.Native.Nat.{ℕ, _+_, _*_, _/_, _%_, _≤_, _<_}
 use mathlib.Core.Path.{_≡_, refl, sym, ap, _∙_}
 use mathlib.Core.Bool.{Bool, true, false, not, _&&_}
@@ -12,7 +12,8 @@ use lib.ListN.{length}
 use borrow.Author.Tests.{ltb-true, leb-true, lt-ltb, le-leb, ne-eqb, eqb-false, not-true}
 use Rattle.laws.specs.Tests.{each, refuse}
 use Rattle.laws.proofs.Tests.{and-both, and-left, and-right, or-else, or-second, each-at, each-all, holds-each, all-hold, refuse-none}
-use Rattle.matching.specs.Pairing.{none, scoreEnd, leftOut, mostTracks, Sheet, Admissible, InRange, Paired, ValidPairing, FairPrices, at, sheetOf}
+use Rattle.laws.specs.Lists.{at}
+use Rattle.matching.specs.Pairing.{none, scoreEnd, leftOut, mostTracks, Sheet, Admissible, InRange, Paired, ValidPairing, FairPrices, sheetOf}
 use Rattle.matching.specs.Answer.{sizesOk, Sizes, cellOk, cellsOk, entryOk, pairingOk, numbersOk, rowOk, scoresOk, sheetRefusal}
 
 -- ---- 21

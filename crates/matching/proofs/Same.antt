@@ -1,4 +1,4 @@
--- A pairing is what it says of the tracks that are there; so lists of report numbers do for functions. Assumes nothing.
+-- A pairing is what it says of the tracks that are there; so lists of report numbers do for functions.
 use Prim.Native.Nat.{ℕ, _≤_}
 use mathlib.Core.Path.{_≡_, sym, _∙_, ap}
 use mathlib.Core.Bool.{cond}
@@ -6,10 +6,10 @@ use mathlib.Core.List.{List}
 use native.Mathlib.Nat.{le-of-eq}
 use lib.Dec.{eqb}
 use lib.ListN.{length}
-use Rattle.laws.specs.Lists.{listed}
+use Rattle.laws.specs.Lists.{at, listed}
 use Rattle.laws.proofs.Listed.{length-listed, listed-at}
 use Rattle.laws.proofs.Sums.{sum-same}
-use Rattle.matching.specs.Pairing.{none, Sheet, ValidPairing, pairs, scoreSum, Best, at, Alike, BestList}
+use Rattle.matching.specs.Pairing.{none, Sheet, ValidPairing, pairs, scoreSum, Best, Alike, BestList}
 
 module _ (S : Sheet) (P Q : ℕ → ℕ) (a : Alike (S .tracks) P Q) where
   pub valid-same : ValidPairing S P → ValidPairing S Q

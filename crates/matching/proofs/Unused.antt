@@ -1,4 +1,4 @@
--- A pairing to which a track left out and a report that no track has are added. Assumes nothing.
+-- A pairing to which a track left out and a report that no track has are added.
 use Prim.Native.Nat.{ℕ, _≤_, _<_}
 use mathlib.Core.Path.{_≡_, refl, sym, _∙_}
 use mathlib.Core.Bool.{Bool, true, false, cond, not}

@@ -1,5 +1,5 @@
 -- 01, 'Pairing': the check's answers. Each test is a Bool, and the answer is the number of the first test that fails, or 0.
--- Entries beyond tracks, reports and tracks x reports are neither read nor judged. Assumes nothing.
+-- Entries beyond tracks, reports and tracks x reports are neither read nor judged.
 use Prim.Native.Nat.{ℕ, _+_, _*_, _≤_}
 use mathlib.Core.Bool.{Bool, not, _&&_, _||_}
 use mathlib.Core.List.{List, [], _∷_}
@@ -7,7 +7,8 @@ use lib.Dec.{leb, ltb, eqb}
 use lib.ListN.{length}
 use Rattle.laws.specs.Sums.{Sum}
 use Rattle.laws.specs.Tests.{each, holds, refuse}
-use Rattle.matching.specs.Pairing.{none, scoreEnd, leftOut, mostTracks, mostReports, Sheet, total, at, sheetOf}
+use Rattle.laws.specs.Lists.{at}
+use Rattle.matching.specs.Pairing.{none, scoreEnd, leftOut, mostTracks, mostReports, Sheet, total, sheetOf}
 
 -- 21: few enough tracks n and reports m, and long enough lists, by their lengths
 unfoldable pub sizesOk : (n m cells pairing prices discounts : ℕ) → Bool

@@ -1,11 +1,11 @@
 -- 01, 'Pairing': score sheets, the pairing of tracks with reports, which pairing is best, and the prices and discounts that show it.
--- Assumes nothing.
 use Prim.Native.Nat.{ℕ, _+_, _*_, _≤_, _<_}
 use mathlib.Core.Path.{_≡_}
 use mathlib.Core.Bool.{cond}
 use mathlib.Core.List.{List}
 use lib.Dec.{eqb}
-use lib.ListN.{length, getD}
+use lib.ListN.{length}
+use Rattle.laws.specs.Lists.{at}
 use Rattle.laws.specs.Sums.{Sum}
 
 -- ---- 01's numbers
@@ -98,10 +98,6 @@ pub record Certificate (S : Sheet) (P prices discounts : ℕ → ℕ) : Type 0 w
   pub totals : Sum (S .tracks) prices ≡ total S P + Sum (S .reports) discounts
 
 -- ---- the same of lists, as a caller lends them
-
--- what stands at i in a list
-abbrev pub at : List ℕ → ℕ → ℕ
-at xs i = getD xs i 0
 
 -- f and g are the same below n
 abbrev pub Alike : ℕ → (ℕ → ℕ) → (ℕ → ℕ) → Type 0

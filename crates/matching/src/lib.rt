@@ -6,7 +6,8 @@ ghost use lib.Dec.{eqb};
 ghost use lib.ListN.{length};
 ghost use Rattle.laws.specs.Sums.{Sum};
 ghost use Rattle.laws.specs.Tests.{each};
-ghost use Rattle.matching.specs.Pairing.{leftOut, Paired, scoreOr, total, at, sheetOf};
+ghost use Rattle.laws.specs.Lists.{at};
+ghost use Rattle.matching.specs.Pairing.{leftOut, Paired, scoreOr, total, sheetOf};
 ghost use Rattle.matching.specs.Answer.{sizesOk, Sizes, cellOk, entryOk, pairingOk, numbersOk, pairOk, scoresOk, totalsOk, sheetRefusal, checkAnswer};
 
 // In a cell: the pair is not admissible. In a pairing: the track is left out.

@@ -1,5 +1,4 @@
 -- What callers count on of azimuths: the signed difference leads from b to a, and is the only value of -32,768..32,767 that does.
--- Assumes nothing.
 use Prim.Native.Nat.{ℕ, suc, _+_, _-_, _%_, _<_}
 use mathlib.Core.Path.{_≡_, sym, ap, _∙_}
 use native.Mathlib.Omega.{arith}

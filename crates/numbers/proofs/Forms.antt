@@ -1,4 +1,4 @@
--- The rules by the sign and the size of their argument, as the code computes them. Assumes nothing.
+-- The rules by the sign and the size of their argument, as the code computes them.
 use mathlib.Core.Path.{_≡_, refl, sym}
 use mathlib.Core.Bool.{Bool, true, false, not}
 use Prim.Native.Nat.{ℕ, zero, suc, _+_, _-_, _*_, _/_, _%_, _≤_, _<_, min, max}

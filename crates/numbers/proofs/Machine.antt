@@ -1,4 +1,4 @@
--- What the machine reads back from a signed number's bits is the number; and its test of a sign. Assumes nothing.
+-- What the machine reads back from a signed number's bits is the number; and its test of a sign.
 use mathlib.Core.Path.{_≡_, refl, sym, ap, subst, _∙_}
 use mathlib.Core.Bool.{true, false, not}
 use Prim.Native.Nat.{ℕ, zero, suc, _^_, _<_}

@@ -1,4 +1,4 @@
--- What callers count on of sectors and waits. Assumes nothing.
+-- What callers count on of sectors and waits.
 use Prim.Native.Nat.{ℕ, _+_, _%_, _≤_, _<_}
 use mathlib.Core.Path.{_≡_}
 use native.Mathlib.Omega.{arith}

@@ -1,4 +1,4 @@
--- What callers count on of rounding, holding, remainders and circular distance. Assumes nothing.
+-- What callers count on of rounding, holding, remainders and circular distance.
 use Prim.Native.Nat.{ℕ, zero, suc, _+_, _-_, _*_, _/_, _%_, _≤_, _<_, min, max}
 use mathlib.Core.Path.{_≡_, refl, sym, ap}
 use native.Mathlib.Nat.{mod-lt, mod-le, mul-assoc, mul-suc, div-add-mod, mod-eq-of-lt, mod-eq-sub-mod, add-mul-mod-self-right, le-of-lt}

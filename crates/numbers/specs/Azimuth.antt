@@ -1,4 +1,4 @@
--- Azimuths, which go round at 65,536 (01, 'Numbers carried'). Assumes nothing.
+-- Azimuths, which go round at 65,536 (01, 'Numbers carried').
 use Prim.Native.Nat.{ℕ, _+_, _-_, _%_}
 use mathlib.Core.Bool.{cond}
 use lib.Dec.{ltb}

@@ -1,4 +1,4 @@
--- The scales of ranges, azimuths, sectors and waits (01, 'Numbers carried' and 'After pairing'), each number named once. Assumes nothing.
+-- The scales of ranges, azimuths, sectors and waits (01, 'Numbers carried' and 'After pairing'), each number named once.
 use Prim.Native.Nat.{ℕ, _^_}
 
 -- the largest range, 65 nautical miles in 1/1024

@@ -1,4 +1,4 @@
--- Sectors, and how many calls ahead a track is due (01, 'Numbers carried' and 'After pairing'). Assumes nothing.
+-- Sectors, and how many calls ahead a track is due (01, 'Numbers carried' and 'After pairing').
 use Prim.Native.Nat.{ℕ, _+_, _-_, _/_, _%_}
 use Rattle.numbers.specs.Scales.{sectors, sectorWidth, soonest}
 

@@ -1,4 +1,4 @@
--- Whole numbers with a sign (01, 'A pair' and 'After pairing'). Assumes nothing.
+-- Whole numbers with a sign (01, 'A pair' and 'After pairing').
 use Prim.Native.Nat.{ℕ, suc, _+_, _-_, _*_, _/_, _%_, min, max}
 use mathlib.Core.Bool.{Bool, true, false}
 use lib.IntN.{ℤ, pos, negsuc, negℤ}

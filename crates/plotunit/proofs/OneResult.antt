@@ -1,4 +1,4 @@
--- Two results of one C call are equal, given the same best pairing and the same prices where there is a choice of them. Assumes nothing.
+-- Two results of one C call are equal, given the same best pairing and the same prices where there is a choice of them.
 use Prim.Native.Nat.{ℕ}
 use mathlib.Core.Path.{_≡_, sym, ap, _∙_}
 use mathlib.Core.List.{List}

@@ -1,10 +1,10 @@
--- What C is told, by the case of the answer. Assumes nothing.
+-- What C is told, by the case of the answer.
 use Prim.Native.Nat.{ℕ, zero, suc, _≤_}
 use mathlib.Core.Path.{_≡_, refl, sym, ap, _∙_}
 use mathlib.Core.List.{List, [], _∷_}
 use native.Mathlib.Omega.{arith}
 use lib.ListN.{getD}
-use Rattle.intake.specs.Refusals.{Input, mostDue, mostReports, refusalOf, Ready}
+use Rattle.intake.specs.Refusals.{Input, mostDue, mostBatch, refusalOf, Ready}
 use Rattle.intake.proofs.Readiness.{ready, not-refused}
 use Rattle.sector.specs.declared.Counts.{Counts}
 use Rattle.sector.specs.declared.Served.{Served}
@@ -44,7 +44,7 @@ serve-done {counts = counts} {a = a} p e w =
 -- ---- a sector's score sheet
 
 -- both sizes are small where there are any
-small-by : (k : ℕ) (i : Input) → (k ≡ 0 → Ready i) → (n m : ℕ) → sheetedBy k i ≡ sheeted.Sheet n m → (n ≤ mostDue) × (m ≤ mostReports)
+small-by : (k : ℕ) (i : Input) → (k ≡ 0 → Ready i) → (n m : ℕ) → sheetedBy k i ≡ sheeted.Sheet n m → (n ≤ mostDue) × (m ≤ mostBatch)
 unfolding sheetedBy sheetedNumber sheetedSize tracksOf reportsOf
 small-by zero i r n m e =
     let tracks : tracksOf i ≡ n = ap (λ (s : Sheeted). getD (sheetedSize s []) 0 0) e in
@@ -52,7 +52,7 @@ small-by zero i r n m e =
     (omega (arith, sym tracks, r refl .few-due), omega (arith, sym reports, r refl .few-reports))
 small-by (suc k) i r n m e = let z : suc k ≡ 0 = ap sheetedNumber e in absurd (omega (arith, z))
 
-pub small : (i : Input) (sheet : List ℕ) {a : Sheeted} {n m : ℕ} → a ≡ sheetedOf i sheet → a ≡ sheeted.Sheet n m → (n ≤ mostDue) × (m ≤ mostReports)
+pub small : (i : Input) (sheet : List ℕ) {a : Sheeted} {n m : ℕ} → a ≡ sheetedOf i sheet → a ≡ sheeted.Sheet n m → (n ≤ mostDue) × (m ≤ mostBatch)
 unfolding sheetedOf
 small i sheet {a} {n} {m} p e =
     small-by (refusalOf i (roomFor i sheet)) i (λ z. ready i (not-refused i (roomFor i sheet) z .0)) n m (sym p ∙ e)

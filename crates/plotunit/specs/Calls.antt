@@ -1,5 +1,5 @@
 -- Each answer as C reads it: a number, 0 where the call is served, and a short list of numbers (01, 'Numbers a sector call gives
--- back'). All else that is promised is what the call behind it promises. Assumes nothing.
+-- back'). All else that is promised is what the call behind it promises.
 use Prim.Native.Nat.{ℕ}
 use mathlib.Core.Path.{_≡_}
 use mathlib.Core.List.{List, [], _∷_}

@@ -1,4 +1,4 @@
--- The answer of a served call, entry by entry, and what the controller sees: the glider that is no longer lost. Assumes nothing.
+-- The answer of a served call, entry by entry, and what the controller sees: the glider that is no longer lost.
 use Prim.Native.Nat.{ℕ, _<_}
 use mathlib.Core.Path.{_≡_, refl, sym, _∙_}
 use mathlib.Core.Logic.{⊎-elim}
@@ -8,7 +8,8 @@ use lib.ListN.{length, getD, drop, List·getD-append}
 use lib.Seq.{ext-getD}
 use Rattle.laws.proofs.Stores.{same-or}
 use Rattle.records.specs.Bytes.{slotDue}
-use Rattle.matching.specs.Pairing.{none, Paired, ValidPairing, at}
+use Rattle.laws.specs.Lists.{at}
+use Rattle.matching.specs.Pairing.{none, Paired, ValidPairing}
 use Rattle.intake.specs.Refusals.{Input}
 use Rattle.scoresheet.specs.Cells.{tracksOf, reportsOf, sectorSheet}
 use Rattle.scoresheet.proofs.Due.{due-lies, due-is-due}

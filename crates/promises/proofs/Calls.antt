@@ -1,11 +1,12 @@
--- A call as a whole: when it is refused, and that all but the choice of a best pairing and its prices is settled. Assumes nothing.
+-- A call as a whole: when it is refused, and that all but the choice of a best pairing and its prices is settled.
 use Prim.Native.Nat.{ℕ}
 use mathlib.Core.Path.{_≡_, refl, sym, _∙_}
 use mathlib.Core.List.{List}
 use mathlib.Core.Logic.{⊎-elim}
 use native.Mathlib.Omega.{arith}
 use Rattle.laws.proofs.Stores.{same-or}
-use Rattle.matching.specs.Pairing.{Best, scoreSum, at}
+use Rattle.laws.specs.Lists.{at}
+use Rattle.matching.specs.Pairing.{Best, scoreSum}
 use Rattle.matching.proofs.Theorems.{zero-is-best, best-agree}
 use Rattle.intake.specs.Refusals.{Input}
 use Rattle.scoresheet.specs.Cells.{tracksOf, reportsOf, cellsOf, sectorSheet}

@@ -1,4 +1,4 @@
--- The counts of a served call account for every report, every due track and every slot. Assumes nothing.
+-- The counts of a served call account for every report, every due track and every slot.
 use Prim.Native.Nat.{ℕ, _+_, _≤_, _<_}
 use mathlib.Core.Path.{_≡_, refl, sym, ap, _∙_}
 use mathlib.Core.Bool.{Bool, true, false, cond}
@@ -12,7 +12,8 @@ use lib.ListN.{length}
 use Rattle.laws.specs.Sums.{Sum}
 use Rattle.laws.proofs.Stores.{same-or}
 use Rattle.laws.proofs.Sums.{sum-le, sum-injective}
-use Rattle.matching.specs.Pairing.{none, Paired, pairs, at}
+use Rattle.laws.specs.Lists.{at}
+use Rattle.matching.specs.Pairing.{none, Paired, pairs}
 use Rattle.intake.specs.Refusals.{Input}
 use Rattle.scoresheet.specs.Cells.{tracksOf, reportsOf, sectorSheet}
 use Rattle.walk.specs.Table.{settledTable}

@@ -1,4 +1,4 @@
--- Held slots after a call: those before it, with those started and without those dropped. Assumes nothing.
+-- Held slots after a call: those before it, with those started and without those dropped.
 use Prim.Native.Nat.{ℕ, _+_, _<_}
 use mathlib.Core.Path.{_≡_, refl, sym, _∙_}
 use mathlib.Core.Bool.{Bool, true, false, cond}
@@ -7,7 +7,7 @@ use native.Mathlib.Omega.{arith}
 use borrow.Author.Tests.{eqb-true, eq-eqb, ne-eqb, leb-false}
 use lib.Dec.{eqb, leb, ltb}
 use lib.ListN.{length, getD, set}
-use Rattle.laws.specs.Lists.{firstIndex}
+use Rattle.laws.specs.Lists.{at, firstIndex}
 use Rattle.laws.proofs.Search.{first-found}
 use Rattle.laws.proofs.Sums.{sum-add, sum-same}
 use Rattle.laws.proofs.Tests.{and-left}
@@ -15,9 +15,9 @@ use Rattle.records.specs.declared.Track.{Track}
 use Rattle.records.specs.declared.Report.{Report}
 use Rattle.records.specs.Fields.{free, held, isWeak, allowance}
 use Rattle.records.specs.Bytes.{markAt, waitAt, trackOf, bytesOf, reportOf, slotDue}
-use Rattle.settling.specs.declared.Unpaired.the-variants.{Kept, Dropped}
-use Rattle.settling.specs.Settle.{updatedOf, missedOf, coastedOf, startedOf, agedOf}
-use Rattle.matching.specs.Pairing.{none, at}
+use Rattle.settling.specs.declared.Unpaired.the-variants.{Coasts, Dropped}
+use Rattle.settling.specs.Settle.{updatedOf, coastedOf, withoutPair, startedOf, agedOf}
+use Rattle.matching.specs.Pairing.{none}
 use Rattle.intake.specs.Refusals.{Input, dueSlots}
 use Rattle.scoresheet.specs.Cells.{tracksOf}
 use Rattle.walk.specs.Table.{freed, pairedSlot, unpairedBytes, missedSlot, agedSlot, settledSlot, settledTable, droppedOne, missedAt, missedSum, droppedCount}
@@ -66,11 +66,11 @@ aged-held slot = go (eqb (at slot markAt) held) refl
     go true e = aged-mark slot
     go false e = refl
 
-missed-mark : (t : Track) (s : ℕ) → missedOf t s .mark ≡ held
-unfolding missedOf
+missed-mark : (t : Track) (s : ℕ) → coastedOf t s .mark ≡ held
+unfolding coastedOf
 missed-mark t s = refl
 
-kept-one : (t : Track) → t .mark ≡ held → one (unpairedBytes (Kept t)) + droppedOne (Kept t) ≡ 1
+kept-one : (t : Track) → t .mark ≡ held → one (unpairedBytes (Coasts t)) + droppedOne (Coasts t) ≡ 1
 unfolding unpairedBytes droppedOne
 kept-one t e = rw (held-bytes t e)
 
@@ -79,20 +79,20 @@ unfolding unpairedBytes droppedOne
 dropped-one = rw freed-not-held
 
 -- a due track that is left out is held or dropped
-missed-held : (s : ℕ) (slot : List ℕ) → one (missedSlot s slot) + droppedOne (coastedOf (trackOf slot) s) ≡ 1
-unfolding missedSlot coastedOf
+missed-held : (s : ℕ) (slot : List ℕ) → one (missedSlot s slot) + droppedOne (withoutPair (trackOf slot) s) ≡ 1
+unfolding missedSlot withoutPair
 missed-held s slot = go (ltb (allowance (trackOf slot .updates)) (trackOf slot .misses + 1))
   where
-    go : (b : Bool) → one (unpairedBytes (cond b Dropped (Kept (missedOf (trackOf slot) s)))) + droppedOne (cond b Dropped (Kept (missedOf (trackOf slot) s))) ≡ 1
+    go : (b : Bool) → one (unpairedBytes (cond b Dropped (Coasts (coastedOf (trackOf slot) s)))) + droppedOne (cond b Dropped (Coasts (coastedOf (trackOf slot) s))) ≡ 1
     go true = dropped-one
-    go false = kept-one (missedOf (trackOf slot) s) (missed-mark (trackOf slot) s)
+    go false = kept-one (coastedOf (trackOf slot) s) (missed-mark (trackOf slot) s)
 
 -- what a slot loses, by its rank
 abbrev lost : Input → List ℕ → ℕ → ℕ
 lost i P rank = cond (eqb (at P rank) none) (droppedOne (missedAt (i .table) (i .sector) rank)) 0
 
 -- each slot: what it held is what it holds, and what was dropped there
-slot-keeps : (s : ℕ) (batch : List (List ℕ)) (P slot : List ℕ) (rank gone : ℕ) → (slotDue slot ≡ true → gone ≡ cond (eqb (at P rank) none) (droppedOne (coastedOf (trackOf slot) s)) 0) → one (settledSlot s batch P slot rank) + cond (slotDue slot) gone 0 ≡ one slot
+slot-keeps : (s : ℕ) (batch : List (List ℕ)) (P slot : List ℕ) (rank gone : ℕ) → (slotDue slot ≡ true → gone ≡ cond (eqb (at P rank) none) (droppedOne (withoutPair (trackOf slot) s)) 0) → one (settledSlot s batch P slot rank) + cond (slotDue slot) gone 0 ≡ one slot
 unfolding settledSlot
 slot-keeps s batch P slot rank gone w = go (slotDue slot) refl (eqb (at P rank) none) refl
   where
@@ -101,7 +101,7 @@ slot-keeps s batch P slot rank gone w = go (slotDue slot) refl (eqb (at P rank) 
     go true d false e = rw (due-held slot d, w d, e, paired-held s (getD batch (at P rank) []) slot) refl
     go false d n e = rw (aged-held slot) (omega arith)
 
-rank-lost : (i : Input) (P : List ℕ) (k : ℕ) → k < length (i .table) → slotDue (getD (i .table) k []) ≡ true → lost i P (rankOf (i .table) k) ≡ cond (eqb (at P (rankOf (i .table) k)) none) (droppedOne (coastedOf (trackOf (getD (i .table) k [])) (i .sector))) 0
+rank-lost : (i : Input) (P : List ℕ) (k : ℕ) → k < length (i .table) → slotDue (getD (i .table) k []) ≡ true → lost i P (rankOf (i .table) k) ≡ cond (eqb (at P (rankOf (i .table) k)) none) (droppedOne (withoutPair (trackOf (getD (i .table) k [])) (i .sector))) 0
 unfolding missedAt
 rank-lost i P k l d = rw (due-at-rank i k l d .1)
 

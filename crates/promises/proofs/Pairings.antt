@@ -1,4 +1,4 @@
--- The pairing of a served call: best for its sector, one to one, what the check says of it. Assumes nothing.
+-- The pairing of a served call: best for its sector, one to one, what the check says of it.
 use Prim.Native.Nat.{ℕ, _≤_, _<_}
 use mathlib.Core.Path.{_≡_, refl, sym, ap, _∙_}
 use mathlib.Core.List.{List, []}
@@ -9,7 +9,8 @@ use Rattle.scoring.specs.declared.Scored.{Scored}
 use Rattle.scoring.specs.declared.Scored.the-variants.{NotAdmissible, Score}
 use Rattle.scoring.specs.Score.{scoreOf}
 use Rattle.scoring.proofs.ScoreLaws.{score-below}
-use Rattle.matching.specs.Pairing.{none, scoreEnd, Admissible, Paired, ValidPairing, misses, Best, at}
+use Rattle.laws.specs.Lists.{at}
+use Rattle.matching.specs.Pairing.{none, scoreEnd, Admissible, Paired, ValidPairing, misses, Best}
 use Rattle.matching.specs.Answer.{Fits, checkAnswer}
 use Rattle.matching.proofs.Theorems.{zero-certificate, best-is-zero, fewest-misses, all-are-served, no-report-unused}
 use Rattle.intake.specs.Refusals.{Input}

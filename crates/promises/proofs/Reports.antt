@@ -1,4 +1,4 @@
--- What a served call tells its reports: who is paired with whom, in which slot, and who is shown. Assumes nothing.
+-- What a served call tells its reports: who is paired with whom, in which slot, and who is shown.
 use Prim.Native.Nat.{ℕ, zero, suc, _+_, _≤_, _<_, min}
 use mathlib.Core.Path.{_≡_, refl, sym, ap, _∙_}
 use mathlib.Core.Logic.{⊎-elim}
@@ -9,7 +9,7 @@ use native.Mathlib.Omega.{arith}
 use borrow.Author.Tests.{lt-ltb, le-ltb, eqb-true, eq-eqb, ne-eqb, le-leb, lt-leb}
 use lib.Dec.{eqb, leb, ltb}
 use lib.ListN.{length, getD}
-use Rattle.laws.specs.Lists.{firstIndex, indicesFrom}
+use Rattle.laws.specs.Lists.{at, firstIndex, indicesFrom}
 use Rattle.laws.proofs.Search.{first-before, first-found}
 use Rattle.laws.proofs.Stores.{le-or-lt}
 use Rattle.laws.proofs.Tests.{clash}
@@ -19,7 +19,7 @@ use Rattle.records.specs.Fields.{isWeak}
 use Rattle.records.specs.Bytes.{trackOf, bytesOf, reportOf, slotDue}
 use Rattle.settling.specs.Settle.{updatedOf, updatesMost}
 use Rattle.settling.proofs.HandedOn.{updated-updates}
-use Rattle.matching.specs.Pairing.{none, Paired, at}
+use Rattle.matching.specs.Pairing.{none, Paired}
 use Rattle.intake.specs.Refusals.{Input, dueSlots}
 use Rattle.scoresheet.specs.Cells.{tracksOf, reportsOf}
 use Rattle.scoresheet.proofs.Due.{due-lies, due-is-due}

@@ -1,4 +1,4 @@
--- Each slot after a served call: updated, coasted, dropped, as it was, or with a new track. Assumes nothing.
+-- Each slot after a served call: updated, coasted, dropped, as it was, or with a new track.
 use Prim.Native.Nat.{ℕ, zero, suc, _+_, _≤_, _<_}
 use mathlib.Core.Path.{_≡_, refl, sym, ap, _∙_}
 use mathlib.Core.Bool.{Bool, true, false}
@@ -10,7 +10,7 @@ use borrow.Author.Tests.{leb-false, eq-eqb}
 use lib.Dec.{leb, ltb}
 use lib.ListN.{length, getD, set}
 use lib.Seq.{getD-set-same, getD-set-other}
-use Rattle.laws.specs.Lists.{afterAll, listed}
+use Rattle.laws.specs.Lists.{at, afterAll, listed}
 use Rattle.laws.proofs.Rounds.{all-keep}
 use Rattle.laws.proofs.Search.{first-found}
 use Rattle.laws.proofs.Stores.{same-or}
@@ -19,9 +19,9 @@ use Rattle.records.specs.declared.Track.{Track}
 use Rattle.records.specs.Fields.{free, allowance, isWeak}
 use Rattle.records.specs.Bytes.{markAt, bytesOf, reportOf}
 use Rattle.records.proofs.Checked.{free-slot-not-due}
-use Rattle.settling.specs.Settle.{updatedOf, missedOf, startedOf}
+use Rattle.settling.specs.Settle.{updatedOf, coastedOf, startedOf}
 use Rattle.settling.proofs.HandedOn.{coasted-keeps, coasted-drops}
-use Rattle.matching.specs.Pairing.{none, Paired, at}
+use Rattle.matching.specs.Pairing.{none, Paired}
 use Rattle.intake.specs.Refusals.{Input}
 use Rattle.scoresheet.specs.Cells.{tracksOf, reportsOf}
 use Rattle.scoresheet.proofs.Due.{due-lies, due-is-due}
@@ -37,8 +37,8 @@ use Rattle.promises.proofs.Reports.{rank-is, settled-due, fate-is, slot
 
 -- ---- as pairing leaves a slot
 
-missed-held : (t : Track) (s : ℕ) → isFree (bytesOf (missedOf t s)) ≡ false
-unfolding isFree bytesOf missedOf
+missed-held : (t : Track) (s : ℕ) → isFree (bytesOf (coastedOf t s)) ≡ false
+unfolding isFree bytesOf coastedOf
 missed-held t s = refl
 
 lies : (i : Input) (n : ℕ) → n < tracksOf i → slotOfDue i n < length (i .table)
@@ -188,9 +188,9 @@ module _ (i : Input) (l l′ : Lent) (counts : Counts) (s : ServedWith i l l′ 
       kept (slotOfDue i n) (rw e (updated-held _ _ _)) ∙ e
 
   -- A due track without a pair that may miss once more: its slot holds it, coasted.
-  pub coasted-slot-after : (n : ℕ) → n < tracksOf i → at P n ≡ none → dueTrack i n .misses + 1 ≤ allowance (dueTrack i n .updates) → getD (l′ .table) (slotOfDue i n) [] ≡ bytesOf (missedOf (dueTrack i n) (i .sector))
+  pub coasted-slot-after : (n : ℕ) → n < tracksOf i → at P n ≡ none → dueTrack i n .misses + 1 ≤ allowance (dueTrack i n .updates) → getD (l′ .table) (slotOfDue i n) [] ≡ bytesOf (coastedOf (dueTrack i n) (i .sector))
   coasted-slot-after n h e a =
-      let m : getD (settledTable i P) (slotOfDue i n) [] ≡ bytesOf (missedOf (dueTrack i n) (i .sector)) =
+      let m : getD (settledTable i P) (slotOfDue i n) [] ≡ bytesOf (coastedOf (dueTrack i n) (i .sector)) =
       missed-due i P n h e ∙ missed-kept (i .sector) (getD (i .table) (slotOfDue i n) []) _ (coasted-keeps (dueTrack i n) (i .sector) a) in
       kept (slotOfDue i n) (rw m (missed-held _ _)) ∙ m
 

@@ -1,4 +1,4 @@
--- Counts of the elements of a kind, as sums over their places and over their ranks. Assumes nothing.
+-- Counts of the elements of a kind, as sums over their places and over their ranks.
 use Prim.Native.Nat.{ℕ, zero, suc, _+_, _≤_, _<_}
 use mathlib.Core.Path.{_≡_, refl, sym, ap, _∙_}
 use mathlib.Core.Bool.{Bool, true, false, cond}

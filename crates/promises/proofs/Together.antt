@@ -1,4 +1,4 @@
--- The three calls: a sector call gives what the sheet call and the pairing call give together. Assumes nothing.
+-- The three calls: a sector call gives what the sheet call and the pairing call give together.
 use Prim.Native.Nat.{ℕ, zero, suc, _+_, _*_, _≤_, _<_}
 use mathlib.Core.Path.{_≡_, refl, sym, ap, _∙_}
 use mathlib.Core.Bool.{Bool, true, false, cond}
@@ -10,13 +10,14 @@ use lib.Arith.{digits-lt}
 use lib.ListN.{length, take, drop, length-append, List·getD-append}
 use lib.Seq.{length-take-le, getD-take, drop-at}
 use Rattle.laws.proofs.Stores.{same-or}
-use Rattle.matching.specs.Pairing.{InRange, Alike, at, sheetOf}
+use Rattle.laws.specs.Lists.{at}
+use Rattle.matching.specs.Pairing.{InRange, Alike, sheetOf}
 use Rattle.matching.specs.Answer.{Fits, checkAnswer}
 use Rattle.matching.proofs.Theorems.{zero-certificate, ready-is-not-refused, beyond-is-not-read}
 use Rattle.engine.specs.declared.Paired.{Paired}
 use Rattle.engine.specs.declared.Paired.the-variants as paired-call
 use Rattle.engine.specs.Call as pairing
-use Rattle.intake.specs.Refusals.{Input, faultOf, refusalOf, Ready}
+use Rattle.intake.specs.Refusals.{Input, faultOf, refusalOf, Ready, noRoom}
 use Rattle.intake.proofs.Readiness.{ready, not-refused, refused-by-fault, refused-by-room}
 use Rattle.scoresheet.specs.declared.Sheeted.the-variants as sheet-call
 use Rattle.scoresheet.specs.Cells.{cellsOf, tracksOf, reportsOf, sectorSheet}
@@ -192,7 +193,7 @@ by-fault i room k h n e =
     (λ d. sym (refused-by-fault i room d) ∙ e)
     (same-or (faultOf i) 0)
   where
-    go : (b : Bool) → cond b 0 9 ≡ k → ⊥
+    go : (b : Bool) → cond b 0 noRoom ≡ k → ⊥
     go true z = n (sym z)
     go false z = omega arith
 

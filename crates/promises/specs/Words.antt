@@ -1,4 +1,4 @@
--- What a call and its answer say: of one report, of one due track, of all of them; P is the pairing. Assumes nothing.
+-- What a call and its answer say: of one report, of one due track, of all of them; P is the pairing.
 use Prim.Native.Nat.{ℕ, _+_, _-_, _≤_, _<_}
 use mathlib.Core.Path.{_≡_}
 use mathlib.Core.Bool.{Bool, true}
@@ -6,12 +6,12 @@ use mathlib.Core.Logic.{_⊎_}
 use mathlib.Core.List.{List, []}
 use lib.Dec.{eqb}
 use lib.ListN.{length, getD, take}
-use Rattle.laws.specs.Lists.{indicesFrom}
+use Rattle.laws.specs.Lists.{at, indicesFrom}
 use Rattle.records.specs.declared.Track.{Track}
 use Rattle.records.specs.Fields.{held}
 use Rattle.records.specs.Bytes.{markAt, trackOf, bytesOf, reportOf}
 use Rattle.settling.specs.Settle.{updatedOf, startedOf}
-use Rattle.matching.specs.Pairing.{pairs, scoreSum, at}
+use Rattle.matching.specs.Pairing.{pairs, scoreSum}
 use Rattle.engine.specs.declared.Paired.{Paired}
 use Rattle.engine.specs.declared.Paired.the-variants as paired-call
 use Rattle.intake.specs.Refusals.{Input, dueSlots}

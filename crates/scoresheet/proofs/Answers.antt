@@ -1,4 +1,4 @@
--- The answer of the sheet call and what it leaves, by the way that the call went. Assumes nothing.
+-- The answer of the sheet call and what it leaves, by the way that the call went.
 use Prim.Native.Nat.{ℕ, zero, suc, _*_, _≤_, _<_}
 use mathlib.Core.Path.{_≡_, refl, sym, ap, _∙_}
 use mathlib.Core.Bool.{Bool, cond}
@@ -8,7 +8,7 @@ use borrow.Author.Tests.{le-leb, lt-leb}
 use lib.ListN.{length, take, drop, length-take}
 use lib.Seq.{length-take-le}
 use native.Mathlib.Nat.{mul-le-mul}
-use Rattle.intake.specs.Refusals.{Input, dueSlots, mostDue, mostReports, faultOf, refusalOf, Ready}
+use Rattle.intake.specs.Refusals.{Input, dueSlots, mostDue, mostBatch, faultOf, refusalOf, Ready, noRoom}
 use Rattle.intake.proofs.Readiness.{ready, refused-by-fault, refused-by-room}
 use Rattle.scoresheet.specs.declared.Sheeted.{Sheeted}
 use Rattle.scoresheet.specs.declared.Sheeted.the-variants.{Refused, Sheet}
@@ -38,11 +38,11 @@ pub by-fault : (k : ℕ) (i : Input) (sheet : List ℕ) → k ≡ faultOf i → 
 by-fault k i sheet e h = refused k i sheet (refused-by-fault i (roomFor i sheet) (λ z. h (e ∙ z)) ∙ sym e) h
 
 -- refused by 9
-by-room : (i : Input) (sheet : List ℕ) → faultOf i ≡ 0 → length sheet < tracksOf i * reportsOf i → Answers i sheet (Refused 9) sheet
+by-room : (i : Input) (sheet : List ℕ) → faultOf i ≡ 0 → length sheet < tracksOf i * reportsOf i → Answers i sheet (Refused noRoom) sheet
 unfolding roomFor
 by-room i sheet e h =
-    refused 9 i sheet
-    (refused-by-room i (roomFor i sheet) e ∙ ap (λ (b : Bool). cond b 0 9) (lt-leb (tracksOf i * reportsOf i) (length sheet) h))
+    refused noRoom i sheet
+    (refused-by-room i (roomFor i sheet) e ∙ ap (λ (b : Bool). cond b 0 noRoom) (lt-leb (tracksOf i * reportsOf i) (length sheet) h))
     (λ z. omega arith)
 
 -- served
@@ -64,7 +64,7 @@ listed {i} {n} {due} z c s =
     record { no-fault = z; good = ready i z; count = c; slots = s; room = omega (arith, ap length s ∙ sym c, length-take n due) }
 
 -- few enough cells to count
-pub few-cells : {i : Input} {n : ℕ} {due : List ℕ} → Listed i n due → n * length (i .batch) ≤ mostDue * mostReports
+pub few-cells : {i : Input} {n : ℕ} {due : List ℕ} → Listed i n due → n * length (i .batch) ≤ mostDue * mostBatch
 unfolding tracksOf
 few-cells {i} {n} l = mul-le-mul {n₂ = mostDue} (omega (arith, l .count, l .good .few-due)) (l .good .few-reports)
 
@@ -72,7 +72,7 @@ pub rows-ready : {i : Input} {n : ℕ} {due sheet : List ℕ} → Listed i n due
 rows-ready {i} {n} {due} {sheet} l h = record { due-is = l .slots; room = rw (length-take-le n due (l .room)) h }
 
 -- the two ways on from there
-pub too-short : {i : Input} {n : ℕ} {due : List ℕ} (sheet : List ℕ) → Listed i n due → length sheet < n * length (i .batch) → Answers i sheet (Refused 9) sheet
+pub too-short : {i : Input} {n : ℕ} {due : List ℕ} (sheet : List ℕ) → Listed i n due → length sheet < n * length (i .batch) → Answers i sheet (Refused noRoom) sheet
 unfolding reportsOf
 too-short {i} {n} sheet l h = by-room i sheet (l .no-fault) (rw (l .count) at h)
 

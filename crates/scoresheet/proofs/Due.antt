@@ -1,4 +1,4 @@
--- The due list: each entry is a slot of the table that holds a well-formed due track. Assumes nothing.
+-- The due list: each entry is a slot of the table that holds a well-formed due track.
 use Prim.Native.Nat.{ℕ, _-_, _<_}
 use mathlib.Core.Path.{_≡_}
 use mathlib.Core.Bool.{true}
@@ -10,7 +10,8 @@ use lib.ListN.{length, getD}
 use Rattle.laws.proofs.Ranks.{named}
 use Rattle.laws.proofs.Tests.{and-left}
 use Rattle.records.specs.Fields.{held, WellFormed}
-use Rattle.records.specs.Bytes.{at, markAt, waitAt, trackOf, slotDue}
+use Rattle.laws.specs.Lists.{at}
+use Rattle.records.specs.Bytes.{markAt, waitAt, trackOf, slotDue}
 use Rattle.records.proofs.Checked.{slot-well-formed}
 use Rattle.intake.specs.Refusals.{Input, dueSlots, Ready}
 

@@ -1,4 +1,4 @@
--- The rows of the due tracks while a loop writes them. Assumes nothing.
+-- The rows of the due tracks while a loop writes them.
 use Prim.Native.Nat.{ℕ, _+_, _-_, _*_, _≤_, _<_}
 use mathlib.Core.Path.{_≡_}
 use mathlib.Core.List.{List, [], _++_, append-nil}
@@ -15,7 +15,7 @@ use Rattle.records.specs.declared.Track.{Track}
 use Rattle.records.specs.Fields.{WellFormed}
 use Rattle.records.specs.Bytes.{trackOf}
 use Rattle.records.proofs.Checked.{sound}
-use Rattle.intake.specs.Refusals.{Input, dueSlots, mostDue, mostReports, Ready}
+use Rattle.intake.specs.Refusals.{Input, dueSlots, mostDue, mostBatch, Ready}
 use Rattle.scoresheet.specs.Cells.{pairCell, rowOf, rowsOf}
 use Rattle.scoresheet.specs.Ready.{RowReady, RowsReady}
 use Rattle.scoresheet.proofs.Due.{due-lies, due-well-formed}
@@ -62,8 +62,8 @@ rows-end {I} {due} {sheet} {sheet₀} {i} w h =
 
 -- what the next row may count on
 pub record NextRow (I : Input) (due sheet : List ℕ) (i : ℕ) : Type 0 where
-  pub start : i * length (I .batch) ≤ mostDue * mostReports
-  pub few : length (I .batch) ≤ mostReports
+  pub start : i * length (I .batch) ≤ mostDue * mostBatch
+  pub few : length (I .batch) ≤ mostBatch
   pub room : i * length (I .batch) + length (I .batch) ≤ length sheet
   pub there : getD due i 0 < length (I .table)
   pub track : WellFormed (trackOf (getD (I .table) (getD due i 0) [])) (I .sector)

@@ -1,4 +1,4 @@
--- A sector's sheet, as the pairing reads it: a cell a pair, each none or a score. Assumes nothing.
+-- A sector's sheet, as the pairing reads it: a cell a pair, each none or a score.
 use Prim.Native.Nat.{ℕ, zero, suc, _+_, _*_, _^_, _<_}
 use mathlib.Core.Path.{_≡_, refl, sym}
 use mathlib.Core.List.{List, [], _∷_}
@@ -11,7 +11,8 @@ use Rattle.scoring.specs.declared.Scored.{Scored}
 use Rattle.scoring.specs.declared.Scored.the-variants.{NotAdmissible, Score}
 use Rattle.scoring.specs.Score.{scoreOf}
 use Rattle.scoring.proofs.ScoreLaws.{score-below}
-use Rattle.matching.specs.Pairing.{none, scoreEnd, at, InRange}
+use Rattle.laws.specs.Lists.{at}
+use Rattle.matching.specs.Pairing.{none, scoreEnd, InRange}
 use Rattle.intake.specs.Refusals.{Input, dueSlots, Ready}
 use Rattle.scoresheet.specs.Cells.{cellOf, pairCell, rowOf, rowsOf, cellsOf, tracksOf, reportsOf, sectorSheet}
 use Rattle.laws.proofs.InPlace.{map-at}

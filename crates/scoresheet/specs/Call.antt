@@ -1,4 +1,4 @@
--- The call that gives a sector's score sheet (01, 'Pairing'; refusals 1 to 9, where 9 is a sheet too short). Assumes nothing.
+-- The call that gives a sector's score sheet (01, 'Pairing'; refusals 1 to 9, where 9 is a sheet too short).
 use Prim.Native.Nat.{ℕ, zero, suc, _*_}
 use mathlib.Core.Bool.{Bool}
 use mathlib.Core.List.{List, _++_}

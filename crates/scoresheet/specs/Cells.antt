@@ -1,4 +1,4 @@
--- A sector's score sheet: due tracks in slot order, reports in batch order, cells row by row (01, 'Pairing'). Assumes nothing.
+-- A sector's score sheet: due tracks in slot order, reports in batch order, cells row by row (01, 'Pairing').
 use Prim.Native.Nat.{ℕ}
 use mathlib.Core.List.{List, [], _∷_, _++_, map}
 use lib.ListN.{length, getD}

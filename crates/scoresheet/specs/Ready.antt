@@ -1,4 +1,4 @@
--- What the loops that fill a sheet count on. Assumes nothing.
+-- What the loops that fill a sheet count on.
 use Prim.Native.Nat.{ℕ, _*_, _≤_, _<_}
 use mathlib.Core.Path.{_≡_}
 use mathlib.Core.List.{List, []}

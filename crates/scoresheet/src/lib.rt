@@ -64,9 +64,6 @@ pub fn fill_rows(
     }
 }
 
-// The number given back where the answer finds no room.
-pub const NO_ROOM: u8 = 9;
-
 // The public call: refused by 1 to 9, and then nothing is written; else the sheet's cells, and no more.
 pub fn score_sheet(
     table: &[[u8; records::SLOT_BYTES]],
@@ -87,7 +84,7 @@ pub fn score_sheet(
     let tracks = taken.tracks;
     let reports = batch.len();
     if sheet.len() < tracks * reports {
-        return Sheeted::Refused(NO_ROOM);
+        return Sheeted::Refused(intake::NO_ROOM);
     }
     fill_rows(table, sector, site, batch, &due[..tracks], sheet);
     Sheeted::Sheet(tracks, reports)

@@ -1,5 +1,4 @@
 -- The inner zone can reach beyond the outer, and such a pair is inner: sigmas 255, a track of one update, dr 821. By computation.
--- Assumes nothing.
 use mathlib.Core.Path.{_≡_, refl}
 use mathlib.Core.Bool.{false}
 use lib.IntN.{pos}

@@ -1,4 +1,4 @@
--- Laws of `largest`, the largest number of 1..n that a test holds of; and a search that halves an interval. Assumes nothing.
+-- Laws of `largest`, the largest number of 1..n that a test holds of; and a search that halves an interval.
 use Prim.Native.Nat.{ℕ, zero, suc, _+_, _*_, _/_, _^_, _≤_, _<_}
 use mathlib.Core.Path.{_≡_, refl, _∙_}
 use mathlib.Core.Bool.{Bool, true, false, cond}

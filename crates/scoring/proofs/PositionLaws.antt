@@ -1,4 +1,4 @@
--- Laws of the position number. Assumes nothing.
+-- Laws of the position number.
 use Prim.Native.Nat.{ℕ, _+_, _-_, _*_, _^_, _≤_, _<_}
 use mathlib.Core.Path.{_≡_}
 use mathlib.Core.Bool.{true, false}

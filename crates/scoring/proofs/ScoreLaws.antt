@@ -1,4 +1,4 @@
--- Laws of the zone, of each digit, and of the score. Assumes nothing.
+-- Laws of the zone, of each digit, and of the score.
 use Prim.Native.Nat.{ℕ, _+_, _*_, _≤_, _<_, _^_}
 use mathlib.Core.Path.{_≡_, refl}
 use mathlib.Core.Bool.{Bool, true, false, not, cond}

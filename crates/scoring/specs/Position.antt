@@ -1,4 +1,4 @@
--- The position number S (01, 'A pair'), by its exact rule. Assumes nothing.
+-- The position number S (01, 'A pair'), by its exact rule.
 use Prim.Native.Nat.{ℕ, zero, suc, _+_, _-_, _*_}
 use mathlib.Core.Bool.{Bool, cond}
 use lib.Dec.{leb}

@@ -1,4 +1,4 @@
--- The score of a pair: seven octal digits (01, 'A pair'; 002, radar-only). Assumes nothing.
+-- The score of a pair: seven octal digits (01, 'A pair'; 002, radar-only).
 use Prim.Native.Nat.{ℕ, _+_, _*_, _≤_, _<_}
 use mathlib.Core.Bool.{Bool, not, cond, _&&_}
 use lib.Dec.{leb, ltb, eqb}
@@ -66,8 +66,20 @@ unfoldable pub trustOf : Track → Report → ℕ
 trustOf t p = confidenceTrust t p + qualityTrust t p
 
 -- what the digits are worth: zone, position (three digits), Doppler, age, trust
+abbrev pub zoneWorth : ℕ
+zoneWorth = 262144
+
+abbrev pub positionWorth : ℕ
+positionWorth = 512
+
+abbrev pub dopplerWorth : ℕ
+dopplerWorth = 64
+
+abbrev pub ageWorth : ℕ
+ageWorth = 8
+
 abbrev pub digitsWorth : (zone position doppler age trust : ℕ) → ℕ
-digitsWorth zone position doppler age trust = zone * 262144 + position * 512 + doppler * 64 + age * 8 + trust
+digitsWorth zone position doppler age trust = zone * zoneWorth + position * positionWorth + doppler * dopplerWorth + age * ageWorth + trust
 
 -- the worth of an admissible pair
 unfoldable pub worthOf : Track → Report → Site → ℕ

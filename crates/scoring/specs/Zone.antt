@@ -1,20 +1,20 @@
--- The zone of a pair (01, 'A pair'): dr and da are predicted minus reported, range and azimuth. Assumes nothing.
+-- The zone of a pair (01, 'A pair'): dr and da are predicted minus reported, range and azimuth.
 use Prim.Native.Nat.{ℕ, _+_, _*_, _/_, min, max}
 use mathlib.Core.Bool.{Bool, cond, _&&_}
 use lib.Dec.{leb, ltb}
-use lib.IntN.{pos, natAbs, _-ℤ_}
+use lib.IntN.{natAbs}
 use Rattle.numbers.specs.Scales.{rangeSpeedMost, azimuthSpeedMost}
-use Rattle.numbers.specs.Azimuth.{azimuthDifference}
 use Rattle.records.specs.declared.Track.{Track}
 use Rattle.records.specs.declared.Report.{Report}
 use Rattle.records.specs.declared.Site.{Site}
+use Rattle.records.specs.Fields.{updatesAtStart, rangeD, azimuthD}
 
 -- |dr| and |da|
 unfoldable pub rangeOff : Track → Report → ℕ
-rangeOff t p = natAbs (pos (t .range) -ℤ pos (p .range))
+rangeOff t p = natAbs (rangeD t p)
 
 unfoldable pub azimuthOff : Track → Report → ℕ
-azimuthOff t p = natAbs (azimuthDifference (t .azimuth) (p .azimuth))
+azimuthOff t p = natAbs (azimuthD t p)
 
 -- |dr| at most so many range sigmas, and |da| at most so many azimuth sigmas
 unfoldable pub withinSigmas : ℕ → Track → Report → Site → Bool
@@ -40,8 +40,14 @@ unfoldable pub withinReach : Track → Report → Bool
 withinReach t p = leb (rangeOff t p) rangeSpeedMost && leb (azimuthOff t p) (azimuthReach (t .range))
 
 unfoldable pub withinOuter : Track → Report → Site → Bool
-withinOuter t p g = cond (ltb 1 (t .updates)) (withinSigmas (outerSigmas t) t p g) (withinReach t p)
+withinOuter t p g = cond (ltb updatesAtStart (t .updates)) (withinSigmas (outerSigmas t) t p g) (withinReach t p)
 
 -- the zone's digit: inner (tested first) 3, outer 6; 0 for a pair that is not admissible
+abbrev pub innerDigit : ℕ
+innerDigit = 3
+
+abbrev pub outerDigit : ℕ
+outerDigit = 6
+
 unfoldable pub zoneOf : Track → Report → Site → ℕ
-zoneOf t p g = cond (withinSigmas innerSigmas t p g) 3 (cond (withinOuter t p g) 6 0)
+zoneOf t p g = cond (withinSigmas innerSigmas t p g) innerDigit (cond (withinOuter t p g) outerDigit 0)

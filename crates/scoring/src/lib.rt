@@ -15,9 +15,9 @@ use records::Track;
 
 const INNER_SIGMAS: u32 = 4;
 
-const INNER: u32 = 3;
+const INNER_DIGIT: u32 = 3;
 
-const OUTER: u32 = 6;
+const OUTER_DIGIT: u32 = 6;
 
 const CROSS_REACH: u32 = 8_552_910;
 
@@ -28,11 +28,11 @@ const DOPPLER_TOLERANCE: u64 = 12;
 // What a digit of the score is worth: of the zone, the position (three digits), the Doppler, the age.
 pub const ZONE_WORTH: u32 = 262_144;
 
-pub const POSITION_WORTH: u32 = 512;
+const POSITION_WORTH: u32 = 512;
 
 pub const DOPPLER_WORTH: u32 = 64;
 
-pub const AGE_WORTH: u32 = 8;
+const AGE_WORTH: u32 = 8;
 
 pub enum Scored {
     NotAdmissible,
@@ -101,7 +101,7 @@ fn within_reach(t: Track, p: Report) -> bool
 fn within_outer(t: Track, p: Report, g: Site) -> bool
     ensures { λ r. ⌜ r ≡ withinOuter t p g ⌝ }
 {
-    if 1 < t.updates {
+    if records::UPDATES_AT_START < t.updates {
         return within_sigmas(outer_sigmas(t), t, p, g);
     }
     within_reach(t, p)
@@ -112,10 +112,10 @@ fn zone(t: Track, p: Report, g: Site) -> u32
     ensures { λ r. ⌜ r ≡ zoneOf t p g ⌝ }
 {
     if within_sigmas(INNER_SIGMAS, t, p, g) {
-        return INNER;
+        return INNER_DIGIT;
     }
     if within_outer(t, p, g) {
-        return OUTER;
+        return OUTER_DIGIT;
     }
     0
 }

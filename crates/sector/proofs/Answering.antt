@@ -1,4 +1,4 @@
--- The answer of the sector call, by the way that the call went. Assumes nothing.
+-- The answer of the sector call, by the way that the call went.
 use Prim.Native.Nat.{ℕ}
 use mathlib.Core.Path.{_≡_, refl, sym, ap, _∙_}
 use mathlib.Core.Bool.{Bool, true, false, not, cond}
@@ -7,7 +7,7 @@ use native.Mathlib.Omega.{arith}
 use borrow.Author.Tests.{leb-true}
 use Rattle.laws.proofs.Search.{first-upto}
 use Rattle.laws.proofs.Tests.{none-fails}
-use Rattle.intake.specs.Refusals.{Input, faultOf}
+use Rattle.intake.specs.Refusals.{Input, faultOf, noRoom}
 use Rattle.intake.proofs.Readiness.{refused-by-fault, refused-by-room}
 use Rattle.sector.specs.declared.Counts.{Counts}
 use Rattle.sector.specs.declared.Served.the-variants.{Refused, Done}
@@ -39,15 +39,15 @@ unfolding sectorRefusal
 by-fault i l k e h = refused-with i l k (refused-by-fault i (roomFor i l) (λ z. h (e ∙ z)) ∙ sym e) h
 
 -- refused by 9
-pub by-room : (i : Input) (l : Lent) → faultOf i ≡ 0 → roomFor i l ≡ false → ServesSector i l l (Refused 9)
+pub by-room : (i : Input) (l : Lent) → faultOf i ≡ 0 → roomFor i l ≡ false → ServesSector i l l (Refused noRoom)
 unfolding sectorRefusal
 by-room i l e h =
-    refused-with i l 9 (refused-by-room i (roomFor i l) e ∙ ap (λ (b : Bool). cond b 0 9) h) (λ z. omega arith)
+    refused-with i l noRoom (refused-by-room i (roomFor i l) e ∙ ap (λ (b : Bool). cond b 0 noRoom) h) (λ z. omega arith)
 
 -- served
 pub by-serving : (i : Input) (l l′ : Lent) (counts : Counts) → faultOf i ≡ 0 → roomFor i l ≡ true → ServedWith i l l′ counts → ServesSector i l l′ (Done counts)
 unfolding sectorRefusal
 by-serving i l l′ counts e h w = record {
-  refused = λ n. absurd (n (refused-by-room i (roomFor i l) e ∙ ap (λ (b : Bool). cond b 0 9) h));
+  refused = λ n. absurd (n (refused-by-room i (roomFor i l) e ∙ ap (λ (b : Bool). cond b 0 noRoom) h));
   served = λ z. record { counts = counts; done = refl; rest = w };
 }

@@ -1,10 +1,10 @@
--- Score and pair: the sheet is the sector's, the pairing call does not refuse it, and the check accepts what it gives. Assumes nothing.
+-- Score and pair: the sheet is the sector's, the pairing call does not refuse it, and the check accepts what it gives.
 use Prim.Native.Nat.{ℕ, _*_}
 use mathlib.Core.Path.{_≡_, sym, ap, _∙_}
 use mathlib.Core.List.{List, _++_}
 use native.Mathlib.Nat.{le-of-eq, le-refl}
 use lib.ListN.{length, drop}
-use Rattle.matching.specs.Pairing.{at}
+use Rattle.laws.specs.Lists.{at}
 use Rattle.matching.specs.Answer.{Sizes, sheetRefusal}
 use Rattle.matching.proofs.Theorems.{ready-is-not-refused, zero-certificate}
 use Rattle.engine.specs.declared.Paired.{Paired}

@@ -1,4 +1,4 @@
--- A served call, put together from its steps. Assumes nothing.
+-- A served call, put together from its steps.
 use Prim.Native.Nat.{ℕ}
 use mathlib.Core.Path.{_≡_, refl, sym, _∙_}
 use mathlib.Core.List.{List, _++_}

@@ -1,10 +1,11 @@
--- From what a served call has found to what each of its steps asks, and what the steps leave. Assumes nothing.
+-- From what a served call has found to what each of its steps asks, and what the steps leave.
 use Prim.Native.Nat.{ℕ, _≤_}
 use mathlib.Core.Path.{_≡_, sym, ap, _∙_}
 use mathlib.Core.List.{List, _++_}
 use native.Mathlib.Nat.{le-of-eq}
 use lib.ListN.{length, take, drop}
-use Rattle.matching.specs.Pairing.{at, sheetOf, scoreSum}
+use Rattle.laws.specs.Lists.{at}
+use Rattle.matching.specs.Pairing.{sheetOf, scoreSum}
 use Rattle.intake.specs.Refusals.{Input, dueSlots, Ready}
 use Rattle.scoresheet.specs.Cells.{tracksOf, reportsOf, sectorSheet}
 use Rattle.scoresheet.proofs.Due.{due-lies}

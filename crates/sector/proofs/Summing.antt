@@ -1,4 +1,4 @@
--- The sum of pair scores: each pair's cell lies in the sheet and holds a score, and the sum stays small. Assumes nothing.
+-- The sum of pair scores: each pair's cell lies in the sheet and holds a score, and the sum stays small.
 use Prim.Native.Nat.{ℕ, _+_, _*_, _≤_, _<_}
 use mathlib.Core.Path.{_≡_}
 use mathlib.Core.List.{List}
@@ -7,7 +7,8 @@ use native.Mathlib.Omega.{arith}
 use borrow.Author.Tests.{ne-eqb, eq-eqb}
 use lib.ListN.{length}
 use Rattle.laws.proofs.Sums.{row-in}
-use Rattle.matching.specs.Pairing.{none, scoreEnd, mostTracks, mostReports, at, sheetOf, scoreOr}
+use Rattle.laws.specs.Lists.{at}
+use Rattle.matching.specs.Pairing.{none, scoreEnd, mostTracks, mostReports, sheetOf, scoreOr}
 use Rattle.sector.specs.Sum.{Summable}
 
 -- the cell of a pair

@@ -1,15 +1,14 @@
 -- What a sector call answers, and what it leaves in all that was lent (01, 'After pairing' and 'Numbers a sector call gives back').
--- Assumes nothing.
 use Prim.Native.Nat.{ℕ}
 use mathlib.Core.Path.{_≡_}
 use mathlib.Core.Bool.{Bool, not}
 use mathlib.Core.List.{List, [], _∷_, _++_}
 use lib.Dec.{leb}
 use lib.ListN.{length, drop}
-use Rattle.laws.specs.Lists.{firstIndex}
+use Rattle.laws.specs.Lists.{at, firstIndex}
 use Rattle.numbers.specs.Sectors.{nextSector}
 use Rattle.records.specs.declared.Site.{Site}
-use Rattle.matching.specs.Pairing.{at, scoreSum}
+use Rattle.matching.specs.Pairing.{scoreSum}
 use Rattle.matching.specs.Answer.{checkAnswer}
 use Rattle.intake.specs.Refusals.{Input, input, dueSlots, refusalOf}
 use Rattle.scoresheet.specs.Cells.{cellsOf, tracksOf, reportsOf, sectorSheet}

@@ -1,4 +1,4 @@
--- What the steps after pairing leave: the answer's lists, the table and the counts, as the whole promise has them. Assumes nothing.
+-- What the steps after pairing leave: the answer's lists, the table and the counts, as the whole promise has them.
 use Prim.Native.Nat.{ℕ}
 use mathlib.Core.Path.{_≡_}
 use mathlib.Core.List.{List, _++_}

@@ -1,9 +1,10 @@
--- What the steps of a served call count on. Assumes nothing.
+-- What the steps of a served call count on.
 use Prim.Native.Nat.{ℕ, _*_, _≤_}
 use mathlib.Core.Path.{_≡_}
 use mathlib.Core.List.{List}
 use lib.ListN.{length, drop}
-use Rattle.matching.specs.Pairing.{at, ValidPairing}
+use Rattle.laws.specs.Lists.{at}
+use Rattle.matching.specs.Pairing.{ValidPairing}
 use Rattle.matching.specs.Answer.{checkAnswer}
 use Rattle.intake.specs.Refusals.{Input, dueSlots}
 use Rattle.scoresheet.specs.Cells.{cellsOf, tracksOf, reportsOf, sectorSheet}

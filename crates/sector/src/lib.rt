@@ -4,17 +4,18 @@ ghost use mathlib.Core.List.{_++_};
 ghost use Prim.Native.Nat.{_*_, _<_, _≤_};
 ghost use lib.ListN.{length, take, drop};
 ghost use Rattle.numbers.specs.Sectors.{nextSector};
-ghost use Rattle.intake.specs.Refusals.{input, mostDue, mostReports, dueSlots, Ready};
+ghost use Rattle.intake.specs.Refusals.{input, mostDue, mostBatch, dueSlots, Ready};
 ghost use Rattle.sector.specs.Steps.{Pairable, PairedUp, PairedOff, Room};
 ghost use Rattle.sector.specs.Settled.{SettledAs};
 ghost use Rattle.sector.specs.Serve.{lent, rooms, allPass, tally, ServedWith, ServesSector};
-ghost use Rattle.matching.specs.Pairing.{at, scoreEnd, sheetOf, scoreOr, scoreSum};
+ghost use Rattle.laws.specs.Lists.{at};
+ghost use Rattle.matching.specs.Pairing.{scoreEnd, sheetOf, scoreOr, scoreSum};
 ghost use Rattle.sector.specs.Sum.{Summable};
 use records::Site;
 use walk::Missed;
 
 // A cell for each pair of the largest sector.
-const MOST_CELLS: usize = intake::MOST_DUE * intake::MOST_REPORTS;
+const MOST_CELLS: usize = intake::MOST_DUE * intake::MOST_BATCH;
 
 pub struct Counts {
     pub paired: u32,
@@ -66,7 +67,7 @@ fn score_sum(sheet: &[u32], reports: usize, pairing: &[u32]) -> u32
 
 // The counts of the answer.
 fn count_all(fates: &[u8], reports: usize, missed: Missed, scores: u32) -> Counts
-    requires { ⌜ (reports ≤ length (now fates)) × (reports ≤ mostReports) ⌝ }
+    requires { ⌜ (reports ≤ length (now fates)) × (reports ≤ mostBatch) ⌝ }
     ensures { λ r. ⌜ r ≡ tally (take reports (now (fates .entry))) (missed .coasted) (missed .dropped) scores ⌝ }
 {
     Counts {
@@ -196,7 +197,7 @@ fn serve_due(
 
 // Lists of its own for a call: the sheet, and an entry a due track.
 fn blank_sheet() -> [u32; MOST_CELLS]
-    ensures { λ r. ⌜ length r ≡ mostDue * mostReports ⌝ }
+    ensures { λ r. ⌜ length r ≡ mostDue * mostBatch ⌝ }
 {
     [0; MOST_CELLS]
 }
@@ -303,7 +304,7 @@ pub fn serve_sector(
         discounts.len(),
         prices.len(),
     ) {
-        return Served::Refused(scoresheet::NO_ROOM);
+        return Served::Refused(intake::NO_ROOM);
     }
     let tracks = taken.tracks;
     let counts = serve(

@@ -1,4 +1,4 @@
--- Laws of the gains: a rule of a table is one test over its entries. Assumes nothing.
+-- Laws of the gains: a rule of a table is one test over its entries.
 use Prim.Native.Nat.{ℕ, _+_, _≤_}
 use mathlib.Core.Path.{_≡_, refl, _∙_}
 use mathlib.Core.Bool.{Bool, true, false, cond}
@@ -12,7 +12,8 @@ use Rattle.laws.proofs.Tests.{each-at}
 use Rattle.records.specs.Fields.{confidenceMost, qualityMost, Sound}
 use Rattle.records.specs.declared.Track.{Track}
 use Rattle.records.specs.declared.Report.{Report}
-use Rattle.settling.specs.Gains.{tenths, degradedA, degradedB, updatesAtStart, rowA, rowB, listedAt, gain, gainA, gainB}
+use Rattle.settling.specs.Gains.{tenths, degradedA, degradedB, rowA, rowB, listedAt, gain, gainA, gainB}
+use Rattle.records.specs.Fields.{updatesAtStart}
 
 abbrev pub qualities : ℕ
 qualities = qualityMost + 1

@@ -1,4 +1,4 @@
--- What a call leaves in a slot is well formed for the next call. Assumes nothing.
+-- What a call leaves in a slot is well formed for the next call.
 use Prim.Native.Nat.{ℕ, _+_, _-_, _≤_, _<_, min}
 use mathlib.Core.Path.{_≡_, refl}
 use mathlib.Core.Bool.{Bool, true, false, cond}
@@ -15,8 +15,8 @@ use Rattle.records.specs.declared.Track.{Track}
 use Rattle.records.specs.declared.Report.{Report}
 use Rattle.records.specs.Fields.{allowance, WellFormed, Sound}
 use Rattle.records.specs.Bytes.{waitAt, bytesOf}
-use Rattle.settling.specs.declared.Unpaired.the-variants.{Kept, Dropped}
-use Rattle.settling.specs.Settle.{Settleable, updatesMost, newSpeed, rangeAhead, azimuthAhead, updatedRange, updatedAzimuth, updatedRangeSpeed, updatedAzimuthSpeed, updatedOf, missedOf, coastedOf, startedOf, agedOf}
+use Rattle.settling.specs.declared.Unpaired.the-variants.{Coasts, Dropped}
+use Rattle.settling.specs.Settle.{Settleable, updatesMost, newSpeed, rangeAhead, azimuthAhead, updatedRange, updatedAzimuth, updatedRangeSpeed, updatedAzimuthSpeed, updatedOf, coastedOf, withoutPair, startedOf, agedOf}
 use Rattle.settling.proofs.Waits.{waits, wait-is, wait-latest}
 
 -- a well-formed track is one that can be settled
@@ -69,16 +69,16 @@ unfolding updatedOf
 updated-updates t p s = refl
 
 -- a due track without a pair is kept while one more miss is allowed
-pub coasted-keeps : (t : Track) (s : ℕ) → t .misses + 1 ≤ allowance (t .updates) → coastedOf t s ≡ Kept (missedOf t s)
-unfolding coastedOf
+pub coasted-keeps : (t : Track) (s : ℕ) → t .misses + 1 ≤ allowance (t .updates) → withoutPair t s ≡ Coasts (coastedOf t s)
+unfolding withoutPair
 coasted-keeps t s h = rw (le-ltb (allowance (t .updates)) (t .misses + 1) h)
 
-pub coasted-drops : (t : Track) (s : ℕ) → allowance (t .updates) < t .misses + 1 → coastedOf t s ≡ Dropped
-unfolding coastedOf
+pub coasted-drops : (t : Track) (s : ℕ) → allowance (t .updates) < t .misses + 1 → withoutPair t s ≡ Dropped
+unfolding withoutPair
 coasted-drops t s h = rw (lt-ltb (allowance (t .updates)) (t .misses + 1) h)
 
-missed-served : (t : Track) (s : ℕ) → s < sectors → WellFormed t s → t .misses + 1 ≤ allowance (t .updates) → Served (missedOf t s) s
-unfolding missedOf
+missed-served : (t : Track) (s : ℕ) → s < sectors → WellFormed t s → t .misses + 1 ≤ allowance (t .updates) → Served (coastedOf t s) s
+unfolding coastedOf
 missed-served t s h w l = record {
   well = record {
     is-held = refl;
@@ -95,14 +95,14 @@ missed-served t s h w l = record {
   again = wait-is s _;
 }
 
-pub coasted-served : (t kept : Track) (s : ℕ) → s < sectors → WellFormed t s → coastedOf t s ≡ Kept kept → Served kept s
-unfolding coastedOf
+pub coasted-served : (t kept : Track) (s : ℕ) → s < sectors → WellFormed t s → withoutPair t s ≡ Coasts kept → Served kept s
+unfolding withoutPair
 coasted-served t kept s h w e = go (ltb (allowance (t .updates)) (t .misses + 1)) refl e
   where
-    go : (b : Bool) → ltb (allowance (t .updates)) (t .misses + 1) ≡ b → cond b Dropped (Kept (missedOf t s)) ≡ Kept kept → Served kept s
+    go : (b : Bool) → ltb (allowance (t .updates)) (t .misses + 1) ≡ b → cond b Dropped (Coasts (coastedOf t s)) ≡ Coasts kept → Served kept s
     go true l q = let z : _≡_ {A = ℕ} 0 1 = cc in omega arith
     go false l q =
-        let k : missedOf t s ≡ kept = cc in
+        let k : coastedOf t s ≡ kept = cc in
         rw k at (missed-served t s h w (ltb-false (allowance (t .updates)) (t .misses + 1) l))
 
 pub started-served : (p : Report) (s : ℕ) → s < sectors → p .azimuth < turn → Sound p → Served (startedOf p s) s

@@ -1,4 +1,4 @@
--- The smoothed range lies in 0..66,560, and for every gain of 01 it does so before it is held. Assumes nothing.
+-- The smoothed range lies in 0..66,560, and for every gain of 01 it does so before it is held.
 use Prim.Native.Nat.{ℕ, zero, suc, _+_, _-_, _*_, _/_, _≤_, _<_}
 use mathlib.Core.Path.{_≡_, refl, ap}
 use native.Mathlib.Nat.{mul-le-mul-left}

@@ -1,4 +1,4 @@
--- A track served or started in sector s waits until the call that serves its predicted sector. Assumes nothing.
+-- A track served or started in sector s waits until the call that serves its predicted sector.
 use Prim.Native.Nat.{ℕ, _+_, _%_, _≤_, _<_}
 use mathlib.Core.Path.{_≡_}
 use native.Mathlib.Omega.{arith}

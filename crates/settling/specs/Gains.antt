@@ -1,4 +1,4 @@
--- The gains a and b (01, 'After pairing'; 002). Quality and confidence are the report's. Assumes nothing.
+-- The gains a and b (01, 'After pairing'; 002). Quality and confidence are the report's.
 use Prim.Native.Nat.{ℕ, zero, suc}
 use mathlib.Core.Bool.{cond}
 use mathlib.Core.List.{List, [], _∷_}
@@ -6,6 +6,7 @@ use lib.Dec.{eqb}
 use lib.ListN.{getD}
 use Rattle.records.specs.declared.Track.{Track}
 use Rattle.records.specs.declared.Report.{Report}
+use Rattle.records.specs.Fields.{updatesAtStart}
 
 -- a and b are tenths: this many are the whole of D
 abbrev pub tenths : ℕ
@@ -33,10 +34,6 @@ degradedA = 6
 
 abbrev pub degradedB : ℕ
 degradedB = 3
-
--- the updates of a track that one report started
-abbrev pub updatesAtStart : ℕ
-updatesAtStart = 1
 
 -- updates 1 before the pairing gives 10 in every case; else azimuth-degrade 1 decides; else what the table lists
 unfoldable pub gain : Track → Report → (degraded listed : ℕ) → ℕ

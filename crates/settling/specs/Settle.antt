@@ -1,4 +1,4 @@
--- Update, coast, drop, start and ageing of one track (01, 'After pairing'). Assumes nothing.
+-- Update, coast, drop, start and ageing of one track (01, 'After pairing').
 use Prim.Native.Nat.{ℕ, _+_, _-_, _*_, _≤_, min}
 use mathlib.Core.Bool.{cond}
 use lib.Dec.{ltb}
@@ -9,10 +9,10 @@ use Rattle.numbers.specs.Azimuth.{azimuthDifference, azimuthMoved}
 use Rattle.numbers.specs.Sectors.{sectorOf, callsAhead}
 use Rattle.records.specs.declared.Track.{Track}
 use Rattle.records.specs.declared.Report.{Report}
-use Rattle.records.specs.Fields.{held, allowance}
+use Rattle.records.specs.Fields.{held, updatesAtStart, allowance, rangeD, azimuthD}
 use Rattle.settling.specs.declared.Unpaired.{Unpaired}
-use Rattle.settling.specs.declared.Unpaired.the-variants.{Kept, Dropped}
-use Rattle.settling.specs.Gains.{tenths, updatesAtStart, gainA, gainB}
+use Rattle.settling.specs.declared.Unpaired.the-variants.{Coasts, Dropped}
+use Rattle.settling.specs.Gains.{tenths, gainA, gainB}
 
 -- ---- what a step asks of a track: a well-formed one has it
 
@@ -60,13 +60,6 @@ waitAfter s azimuth = callsAhead s (sectorOf azimuth) - 1
 abbrev pub updatesMost : ℕ
 updatesMost = 255
 
--- D of the two coordinates
-unfoldable pub rangeD : Track → Report → ℤ
-rangeD t p = pos (t .range) -ℤ pos (p .range)
-
-unfoldable pub azimuthD : Track → Report → ℤ
-azimuthD t p = azimuthDifference (t .azimuth) (p .azimuth)
-
 unfoldable pub updatedRangeSpeed : Track → Report → ℤ
 updatedRangeSpeed t p = newSpeed rangeSpeedMost (t .«range_speed» .v) (rangeD t p) (gainB t p) (t .misses + 1)
 
@@ -98,8 +91,8 @@ updatedOf t p s = record {
 -- ---- a due track without a pair
 
 -- misses rises by 1 and the speeds are added to the prediction
-unfoldable pub missedOf : Track → ℕ → Track
-missedOf t s = record {
+unfoldable pub coastedOf : Track → ℕ → Track
+coastedOf t s = record {
   range = rangeAhead (t .range) (t .«range_speed» .v);
   azimuth = azimuthAhead (t .azimuth) (t .«azimuth_speed» .v);
   «range_speed» = t .«range_speed»;
@@ -113,8 +106,8 @@ missedOf t s = record {
 }
 
 -- if misses + 1 exceeds the allowance it is dropped
-unfoldable pub coastedOf : Track → ℕ → Unpaired
-coastedOf t s = cond (ltb (allowance (t .updates)) (t .misses + 1)) Dropped (Kept (missedOf t s))
+unfoldable pub withoutPair : Track → ℕ → Unpaired
+withoutPair t s = cond (ltb (allowance (t .updates)) (t .misses + 1)) Dropped (Coasts (coastedOf t s))
 
 -- ---- a report that starts a track
 

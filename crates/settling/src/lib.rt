@@ -3,11 +3,11 @@ ghost use mathlib.Core.Path.{_≡_};
 ghost use Prim.Native.Nat.{_+_, _*_, _≤_, _<_, min};
 ghost use lib.IntN.{pos, natAbs, _*ℤ_};
 ghost use Rattle.numbers.specs.Scales.{rangeMost, sectors, rangeSpeedMost, azimuthSpeedMost};
-ghost use Rattle.records.specs.Fields.{Sound};
+ghost use Rattle.records.specs.Fields.{held, Sound};
 ghost use Rattle.settling.specs.Gains.{tenths, listedAt, gain as Gains·gain, gainA, gainB};
 ghost use Rattle.settling.specs.Settle.{Settleable, speedCorrection, newSpeed, correction as Settle·correction};
 ghost use Rattle.settling.specs.Settle.{smoothedRange, smoothedAzimuth, rangeAhead, azimuthAhead, waitAfter};
-ghost use Rattle.settling.specs.Settle.{updatesMost, updatedOf, coastedOf, startedOf, agedOf};
+ghost use Rattle.settling.specs.Settle.{updatesMost, updatedOf, withoutPair, startedOf, agedOf};
 use numbers::Int;
 use records::Report;
 use records::Track;
@@ -37,13 +37,11 @@ const DEGRADED_A: u32 = 6;
 
 const DEGRADED_B: u32 = 3;
 
-const UPDATES_AT_START: u8 = 1;
-
 const UPDATES_MOST: u8 = 255;
 
 // What becomes of a due track without a pair.
 pub enum Unpaired {
-    Kept(Track),
+    Coasts(Track),
     Dropped,
 }
 
@@ -61,7 +59,7 @@ fn listed(table: [[u32; CONFIDENCES]; QUALITIES], p: Report) -> u32
 fn gain(t: Track, p: Report, degraded: u32, listed: u32) -> u32
     ensures { λ r. ⌜ r ≡ Gains·gain t p degraded listed ⌝ }
 {
-    if t.updates == UPDATES_AT_START {
+    if t.updates == records::UPDATES_AT_START {
         return TENTHS;
     }
     if p.azimuth_degrade == 1 {
@@ -199,10 +197,10 @@ pub fn updated(t: Track, p: Report, s: u8) -> Track
 }
 
 // A due track without a pair, in sector s: dropped where one more miss exceeds its allowance.
-pub fn coasted(t: Track, s: u8) -> Unpaired
+pub fn without_pair(t: Track, s: u8) -> Unpaired
     requires { ⌜ Settleable t ⌝ }
     requires { ⌜ s < sectors ⌝ }
-    ensures { λ r. ⌜ r ≡ coastedOf t s ⌝ }
+    ensures { λ r. ⌜ r ≡ withoutPair t s ⌝ }
 {
     if records::allowed_misses(t.updates) <= t.misses {
         return Unpaired::Dropped;
@@ -210,7 +208,7 @@ pub fn coasted(t: Track, s: u8) -> Unpaired
     let range_speed = t.range_speed;
     let azimuth_speed = t.azimuth_speed;
     let azimuth = azimuth_ahead(t.azimuth, azimuth_speed);
-    Unpaired::Kept(Track {
+    Unpaired::Coasts(Track {
         range: range_ahead(t.range, range_speed),
         azimuth,
         range_speed,
@@ -235,7 +233,7 @@ pub fn started(p: Report, s: u8) -> Track
         azimuth: p.azimuth,
         range_speed: still,
         azimuth_speed: still,
-        updates: UPDATES_AT_START,
+        updates: records::UPDATES_AT_START,
         misses: 0,
         confidence: p.confidence,
         quality: p.quality,
@@ -246,7 +244,7 @@ pub fn started(p: Report, s: u8) -> Track
 
 // A held track that is not due, a call later.
 pub fn aged(mut t: Track) -> Track
-    requires { ⌜ 0 < t .wait ⌝ }
+    requires { ⌜ (t .mark ≡ held) × (0 < t .wait) ⌝ }
     ensures { λ r. ⌜ r ≡ agedOf t ⌝ }
 {
     t.wait -= 1;

@@ -1,4 +1,4 @@
--- A product of two sizes. Assumes nothing.
+-- A product of two sizes.
 use Prim.Native.Nat.{ℕ, _*_, _≤_}
 use native.Mathlib.Nat.{le-trans, mul-le-mul-left, mul-le-mul-right}
 

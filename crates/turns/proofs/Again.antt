@@ -1,4 +1,4 @@
--- A track until its turn comes again, over any chain of accepted calls. Assumes nothing.
+-- A track until its turn comes again, over any chain of accepted calls.
 use Prim.Native.Nat.{ℕ, suc, _+_, _-_, _%_, _≤_, _<_}
 use mathlib.Core.Path.{_≡_, refl, sym, ap, _∙_}
 use mathlib.Core.Bool.{Bool, true, false}
@@ -13,7 +13,8 @@ use Rattle.numbers.specs.Scales.{sectors}
 use Rattle.numbers.specs.Sectors.{sectorOf, nextSector, callsAhead}
 use Rattle.numbers.proofs.SectorLaws.{ahead-only}
 use Rattle.records.specs.Fields.{held}
-use Rattle.records.specs.Bytes.{at, slotBytes, waitAt, markAt, trackOf, slotDue}
+use Rattle.laws.specs.Lists.{at}
+use Rattle.records.specs.Bytes.{slotBytes, waitAt, markAt, trackOf, slotDue}
 use Rattle.records.proofs.RoundTrips.{Bytes}
 use Rattle.sector.specs.Serve.{Lent}
 use Rattle.turns.specs.Calls.{Accepted, Calls, no-more, one-more, slotAt, WaitsOn, ServedIn, TurnSet, StillThere, DueAt}

@@ -1,4 +1,4 @@
--- How many tracks the next calls will find due, as the waits of the table say. Assumes nothing.
+-- How many tracks the next calls will find due, as the waits of the table say.
 use Prim.Native.Nat.{ℕ, suc, _+_, _-_, _≤_, _<_}
 use mathlib.Core.Path.{_≡_, refl, sym, ap, _∙_}
 use mathlib.Core.Bool.{Bool, true, false, cond, _&&_}
@@ -14,7 +14,8 @@ use Rattle.laws.proofs.Stores.{same-or}
 use Rattle.laws.proofs.Tests.{and-left, and-right}
 use Rattle.numbers.specs.Scales.{soonest}
 use Rattle.records.specs.Fields.{held}
-use Rattle.records.specs.Bytes.{at, waitAt, markAt, trackOf, bytesOf, slotDue}
+use Rattle.laws.specs.Lists.{at}
+use Rattle.records.specs.Bytes.{waitAt, markAt, trackOf, bytesOf, slotDue}
 use Rattle.settling.specs.Settle.{agedOf}
 use Rattle.intake.specs.Refusals.{dueSlots}
 use Rattle.walk.specs.Table.{agedSlot}

@@ -1,4 +1,4 @@
--- Refused calls, one after another: the same call is refused again, and over 100 due tracks stay so. Assumes nothing.
+-- Refused calls, one after another: the same call is refused again, and over 100 due tracks stay so.
 use Prim.Native.Nat.{ℕ, suc, _≤_, _<_}
 use mathlib.Core.Path.{_≡_, refl, ap, _∙_}
 use mathlib.Core.Bool.{Bool, true, false, not, cond}

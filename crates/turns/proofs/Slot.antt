@@ -1,4 +1,4 @@
--- One accepted call, seen by one slot. Assumes nothing.
+-- One accepted call, seen by one slot.
 use Prim.Native.Nat.{ℕ, _-_, _<_}
 use mathlib.Core.Path.{_≡_, refl, sym, _∙_}
 use mathlib.Core.Bool.{Bool, true, false, cond}
@@ -15,12 +15,13 @@ use Rattle.numbers.specs.Sectors.{sectorOf}
 use Rattle.numbers.proofs.SectorLaws.{ahead-soonest}
 use Rattle.records.specs.declared.Track.{Track}
 use Rattle.records.specs.Fields.{free, held, WellFormed}
-use Rattle.records.specs.Bytes.{at, slotBytes, waitAt, markAt, trackOf, bytesOf, reportOf, slotDue}
+use Rattle.laws.specs.Lists.{at}
+use Rattle.records.specs.Bytes.{slotBytes, waitAt, markAt, trackOf, bytesOf, reportOf, slotDue}
 use Rattle.records.proofs.Checked.{slot-well-formed, sound}
 use Rattle.records.proofs.RoundTrips.{Bytes, unpack-pack}
 use Rattle.settling.specs.declared.Unpaired.{Unpaired}
-use Rattle.settling.specs.declared.Unpaired.the-variants.{Kept, Dropped}
-use Rattle.settling.specs.Settle.{coastedOf, agedOf}
+use Rattle.settling.specs.declared.Unpaired.the-variants.{Coasts, Dropped}
+use Rattle.settling.specs.Settle.{withoutPair, agedOf}
 use Rattle.settling.proofs.HandedOn.{Served, updated-served, coasted-served, started-served}
 use Rattle.matching.specs.Pairing.{none}
 use Rattle.intake.specs.Refusals.{Input, Ready}
@@ -105,10 +106,10 @@ unfolding isFree freed
 freed-free = refl
 
 fresh-missed : (s : ℕ) (slot : List ℕ) → s < sectors → WellFormed (trackOf slot) s → Fresh s (missedSlot s slot)
-fresh-missed s slot h w = go (coastedOf (trackOf slot) s) refl
+fresh-missed s slot h w = go (withoutPair (trackOf slot) s) refl
   where
-    go : (u : Unpaired) → coastedOf (trackOf slot) s ≡ u → Fresh s (missedSlot s slot)
-    go (Kept t) e = rw (missed-kept s slot t e) (fresh-bytes (coasted-served (trackOf slot) t s h w e))
+    go : (u : Unpaired) → withoutPair (trackOf slot) s ≡ u → Fresh s (missedSlot s slot)
+    go (Coasts t) e = rw (missed-kept s slot t e) (fresh-bytes (coasted-served (trackOf slot) t s h w e))
     go Dropped e = rw (missed-dropped s slot e) (fresh-free s freed freed-free)
 
 -- a slot that is not malformed and does not hold a track is free, and ageing keeps it so

@@ -1,4 +1,4 @@
--- What a served call leaves is fit for the next call. Assumes nothing.
+-- What a served call leaves is fit for the next call.
 use Prim.Native.Nat.{ℕ, suc, _<_}
 use mathlib.Core.Path.{_≡_, refl, sym, _∙_}
 use mathlib.Core.Bool.{Bool, true, false}

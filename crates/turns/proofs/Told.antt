@@ -1,4 +1,4 @@
--- A track that a call updated, coasted or started: its slot's bytes after the call, and that it was served in it. Assumes nothing.
+-- A track that a call updated, coasted or started: its slot's bytes after the call, and that it was served in it.
 use Prim.Native.Nat.{ℕ, _+_, _≤_, _<_}
 use mathlib.Core.Path.{_≡_, refl, sym, _∙_}
 use mathlib.Core.Bool.{Bool, true, false}
@@ -7,8 +7,9 @@ use lib.ListN.{length, getD}
 use Rattle.laws.proofs.Tests.{clash}
 use Rattle.records.specs.declared.Track.{Track}
 use Rattle.records.specs.Fields.{held, allowance}
-use Rattle.records.specs.Bytes.{at, markAt, trackOf, bytesOf, reportOf, slotDue}
-use Rattle.settling.specs.Settle.{updatedOf, missedOf, startedOf}
+use Rattle.laws.specs.Lists.{at}
+use Rattle.records.specs.Bytes.{markAt, trackOf, bytesOf, reportOf, slotDue}
+use Rattle.settling.specs.Settle.{updatedOf, coastedOf, startedOf}
 use Rattle.matching.specs.Pairing.{none, Paired}
 use Rattle.intake.specs.Refusals.{Input}
 use Rattle.scoresheet.specs.Cells.{tracksOf, reportsOf}
@@ -51,8 +52,8 @@ module _ {l l′ : Lent} (a : Accepted l l′) where
   paired-served-in n h p = due-served n h _ refl (paired-slot-after i l l′ counts (outcome a) n h p)
 
   -- A due track without a pair that may miss once more is served, and its slot holds it coasted.
-  pub coasted-served-in : (n : ℕ) → n < tracksOf i → at P n ≡ none → words.dueTrack i n .misses + 1 ≤ allowance (words.dueTrack i n .updates) → ServedTo (missedOf (words.dueTrack i n) (l .sector)) l l′ (words.slotOfDue i n)
-  unfolding missedOf
+  pub coasted-served-in : (n : ℕ) → n < tracksOf i → at P n ≡ none → words.dueTrack i n .misses + 1 ≤ allowance (words.dueTrack i n .updates) → ServedTo (coastedOf (words.dueTrack i n) (l .sector)) l l′ (words.slotOfDue i n)
+  unfolding coastedOf
   coasted-served-in n h e m = due-served n h _ refl (coasted-slot-after i l l′ counts (outcome a) n h e m)
 
   -- a slot that pairing left free held no waiting track

@@ -1,17 +1,17 @@
--- Accepted sector calls, one after another (01, 'Numbers carried': a wait counts accepted calls). Assumes nothing.
+-- Accepted sector calls, one after another (01, 'Numbers carried': a wait counts accepted calls).
 use Prim.Native.Nat.{ℕ, suc, _+_, _-_, _%_, _≤_, _<_}
 use mathlib.Core.Path.{_≡_}
 use mathlib.Core.Bool.{Bool, true, _&&_}
 use mathlib.Core.List.{List, []}
 use lib.Dec.{eqb}
 use lib.ListN.{length, getD, set}
-use Rattle.laws.specs.Lists.{indicesFrom}
+use Rattle.laws.specs.Lists.{at, indicesFrom}
 use Rattle.numbers.specs.Scales.{sectors, soonest}
 use Rattle.numbers.specs.Sectors.{sectorOf, nextSector}
 use Rattle.records.specs.declared.Site.{Site}
 use Rattle.records.specs.declared.Track.{Track}
 use Rattle.records.specs.Fields.{held, waitMost, trackFields}
-use Rattle.records.specs.Bytes.{at, waitAt, markAt, trackOf, bytesOf, badSlotField, slotDue}
+use Rattle.records.specs.Bytes.{waitAt, markAt, trackOf, bytesOf, badSlotField, slotDue}
 use Rattle.fates.specs.Fates.{paired, started}
 use Rattle.sector.specs.declared.Served.{Served}
 use Rattle.sector.specs.Serve.{Lent, handedIn, sectorRefusal, ServesSector}

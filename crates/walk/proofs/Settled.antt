@@ -1,4 +1,4 @@
--- Laws of the settled table: its slots one by one, none of them malformed for the next call; and the counts of missed tracks. Assumes nothing.
+-- Laws of the settled table: its slots one by one, none of them malformed for the next call; and the counts of missed tracks.
 use Prim.Native.Nat.{ℕ, zero, suc, _+_, _<_}
 use mathlib.Core.Path.{_≡_, refl, sym, ap, _∙_}
 use mathlib.Core.Bool.{Bool, true, false, cond}
@@ -8,7 +8,7 @@ use native.Mathlib.Omega.{arith}
 use lib.Dec.{eqb}
 use lib.ListN.{length, getD, take}
 use borrow.Author.Tests.{eqb-true, eqb-false, ne-eqb}
-use Rattle.laws.specs.Lists.{afterAll, indicesFrom}
+use Rattle.laws.specs.Lists.{at, afterAll, indicesFrom}
 use Rattle.laws.specs.Sums.{Sum}
 use Rattle.laws.proofs.Fold.{length-outs}
 use Rattle.laws.proofs.Sizes.{mag-size}
@@ -17,19 +17,19 @@ use Rattle.numbers.specs.Scales.{sectors}
 use Rattle.numbers.specs.Sectors.{nextSector}
 use Rattle.records.specs.declared.Track.{Track}
 use Rattle.records.specs.Fields.{free, held, trackFields, reportFields, badReportField, WellFormed}
-use Rattle.records.specs.Bytes.{at, markAt, trackOf, bytesOf, reportOf, badSlotField, slotDue}
+use Rattle.records.specs.Bytes.{markAt, trackOf, bytesOf, reportOf, badSlotField, slotDue}
 use Rattle.records.proofs.Checked.{all-fields-good, free-slot-good, slot-well-formed, sound}
 use Rattle.records.proofs.RoundTrips.{unpack-pack}
 use Rattle.settling.specs.declared.Unpaired.{Unpaired}
-use Rattle.settling.specs.declared.Unpaired.the-variants.{Kept, Dropped}
-use Rattle.settling.specs.Settle.{coastedOf, agedOf}
+use Rattle.settling.specs.declared.Unpaired.the-variants.{Coasts, Dropped}
+use Rattle.settling.specs.Settle.{withoutPair, agedOf}
 use Rattle.settling.proofs.HandedOn.{updated-served, coasted-served, aged-well-formed}
 use Rattle.matching.specs.Pairing.{none}
 use Rattle.intake.specs.Refusals.{Input, dueSlots, Ready}
-use Rattle.walk.specs.Table.{freed, pairedSlot, missedSlot, agedSlot, dueRank, settledSlot, slotPrice, settledTable, slotPrices, keptOne, droppedOne, missedAt, missedSum, coastedCount, droppedCount}
+use Rattle.walk.specs.Table.{freed, pairedSlot, missedSlot, agedSlot, dueRank, settledSlot, slotPrice, settledTable, slotPrices, coastedOne, droppedOne, missedAt, missedSum, coastedCount, droppedCount}
 use Rattle.walk.specs.Counting.{Names, SlotSettles}
 use Rattle.laws.proofs.Ranks.{outs-at, ranked}
-use Rattle.walk.proofs.Slots.{due-track, waits-on, missed-kept, missed-dropped}
+use Rattle.walk.proofs.Slots.{due-track, track-waits-on, missed-kept, missed-dropped}
 
 -- the table keeps its number of slots
 pub settled-length : (i : Input) (P : List ℕ) → length (settledTable i P) ≡ length (i .table)
@@ -79,10 +79,6 @@ pub track-mark : (slot : List ℕ) → trackOf slot .mark ≡ held → at slot m
 unfolding trackOf
 track-mark slot e = e
 
-track-waits : (slot : List ℕ) → slotDue slot ≡ false → at slot markAt ≡ held → 0 < trackOf slot .wait
-unfolding trackOf
-track-waits slot d e = waits-on slot d e
-
 bytes-mark : (t : Track) → at (bytesOf t) markAt ≡ t .mark
 unfolding bytesOf
 bytes-mark t = refl
@@ -103,10 +99,10 @@ unfolding pairedSlot
 paired-good s report slot h e = good-bytes _ (nextSector s) (updated-served (trackOf slot) (reportOf report) s h (sound (reportOf report) e) .well)
 
 missed-good : (s : ℕ) (slot : List ℕ) → s < sectors → WellFormed (trackOf slot) s → badSlotField (missedSlot s slot) (nextSector s) ≡ trackFields
-missed-good s slot h w = go (coastedOf (trackOf slot) s) refl
+missed-good s slot h w = go (withoutPair (trackOf slot) s) refl
   where
-    go : (u : Unpaired) → coastedOf (trackOf slot) s ≡ u → badSlotField (missedSlot s slot) (nextSector s) ≡ trackFields
-    go (Kept t) e = rw (missed-kept s slot t e) (good-bytes t (nextSector s) (coasted-served (trackOf slot) t s h w e .well))
+    go : (u : Unpaired) → withoutPair (trackOf slot) s ≡ u → badSlotField (missedSlot s slot) (nextSector s) ≡ trackFields
+    go (Coasts t) e = rw (missed-kept s slot t e) (good-bytes t (nextSector s) (coasted-served (trackOf slot) t s h w e .well))
     go Dropped e = rw (missed-dropped s slot e) (freed-slot-good (nextSector s))
 
 aged-good : (s : ℕ) (slot : List ℕ) → badSlotField slot s ≡ trackFields → slotDue slot ≡ false → badSlotField (agedSlot slot) (nextSector s) ≡ trackFields
@@ -117,7 +113,7 @@ aged-good s slot g d = go (eqb (at slot markAt) held) refl (eqb (at slot markAt)
     go true m f q =
         let mark : at slot markAt ≡ held = eqb-true (at slot markAt) held m in
         let w : WellFormed (trackOf slot) s = slot-well-formed slot s g (λ z. omega arith) in
-        good-bytes _ (nextSector s) (aged-well-formed (trackOf slot) s w (track-waits slot d mark))
+        good-bytes _ (nextSector s) (aged-well-formed (trackOf slot) s w (track-waits-on slot d mark .1))
     go false m true q = free-slot-good slot (nextSector s) (eqb-true (at slot markAt) free q)
     go false m false q =
         let w : WellFormed (trackOf slot) s = slot-well-formed slot s g (eqb-false (at slot markAt) free q) in
@@ -157,9 +153,9 @@ sum-ones zero = refl
 sum-ones (suc n) = omega (arith, sum-ones n)
 
 -- a due track without a pair coasts or is dropped
-kept-or-dropped : (u : Unpaired) → keptOne u + droppedOne u ≡ 1
-unfolding keptOne droppedOne
-kept-or-dropped (Kept t) = refl
+kept-or-dropped : (u : Unpaired) → coastedOne u + droppedOne u ≡ 1
+unfolding coastedOne droppedOne
+kept-or-dropped (Coasts t) = refl
 kept-or-dropped Dropped = refl
 
 -- those that coast and those that are dropped are those without a pair
@@ -167,7 +163,7 @@ pub missed-counts : (i : Input) (n : ℕ) (P : List ℕ) → coastedCount i n P 
 unfolding coastedCount droppedCount missedSum
 missed-counts i n P = sym (sum-add n _ _) ∙ sum-same n _ _ (λ rank l. go (eqb (at P rank) none) (missedAt (i .table) (i .sector) rank))
   where
-    go : (b : Bool) (u : Unpaired) → cond b (keptOne u) 0 + cond b (droppedOne u) 0 ≡ cond b 1 0
+    go : (b : Bool) (u : Unpaired) → cond b (coastedOne u) 0 + cond b (droppedOne u) 0 ≡ cond b 1 0
     go true u = kept-or-dropped u
     go false u = refl
 

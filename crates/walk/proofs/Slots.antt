@@ -1,4 +1,4 @@
--- What the step of one slot counts on, and its bytes. Assumes nothing.
+-- What the step of one slot counts on, and its bytes.
 use Prim.Native.Nat.{ℕ, _-_, _<_}
 use mathlib.Core.Path.{_≡_}
 use mathlib.Core.Bool.{true, false}
@@ -11,11 +11,12 @@ use Rattle.laws.proofs.Tests.{clash}
 use Rattle.numbers.specs.Scales.{halfTurn}
 use Rattle.records.specs.declared.Track.{Track}
 use Rattle.records.specs.Fields.{held, trackFields, WellFormed}
-use Rattle.records.specs.Bytes.{slotBytes, waitAt, markAt, at, trackOf, bytesOf, badSlotField, slotDue}
+use Rattle.laws.specs.Lists.{at}
+use Rattle.records.specs.Bytes.{slotBytes, waitAt, markAt, trackOf, bytesOf, badSlotField, slotDue}
 use Rattle.records.proofs.Checked.{free-slot-not-due, slot-well-formed}
 use Rattle.records.proofs.RoundTrips.{Bytes, pack-unpack}
-use Rattle.settling.specs.declared.Unpaired.the-variants.{Kept, Dropped}
-use Rattle.settling.specs.Settle.{coastedOf}
+use Rattle.settling.specs.declared.Unpaired.the-variants.{Coasts, Dropped}
+use Rattle.settling.specs.Settle.{withoutPair}
 use Rattle.settling.proofs.HandedOn.{aged-bytes}
 use Rattle.walk.specs.Table.{freed, unpairedBytes, missedSlot, agedSlot}
 
@@ -30,17 +31,22 @@ waits-on slot d e =
     let z : at slot waitAt ≡ 0 → ⊥ = eqb-false (at slot waitAt) 0 (rw (eq-eqb (at slot markAt) held e) at d) in
     omega arith
 
+-- and so does its track, with its mark
+pub track-waits-on : (slot : List ℕ) → slotDue slot ≡ false → at slot markAt ≡ held → (trackOf slot .mark ≡ held) × (0 < trackOf slot .wait)
+unfolding trackOf
+track-waits-on slot d e = (e, waits-on slot d e)
+
 -- ageing changes one byte
 pub aged-byte : (slot : List ℕ) → Bytes slotBytes slot → at slot markAt ≡ held → agedSlot slot ≡ set slot waitAt (at slot waitAt - 1)
 unfolding agedSlot trackOf
 aged-byte slot b e = rw (eq-eqb (at slot markAt) held e, aged-bytes (trackOf slot), pack-unpack slot b)
 
 -- a due track without a pair, by what becomes of it
-pub missed-kept : (s : ℕ) (slot : List ℕ) (t : Track) → coastedOf (trackOf slot) s ≡ Kept t → missedSlot s slot ≡ bytesOf t
+pub missed-kept : (s : ℕ) (slot : List ℕ) (t : Track) → withoutPair (trackOf slot) s ≡ Coasts t → missedSlot s slot ≡ bytesOf t
 unfolding missedSlot unpairedBytes
 missed-kept s slot t e = rw e
 
-pub missed-dropped : (s : ℕ) (slot : List ℕ) → coastedOf (trackOf slot) s ≡ Dropped → missedSlot s slot ≡ freed
+pub missed-dropped : (s : ℕ) (slot : List ℕ) → withoutPair (trackOf slot) s ≡ Dropped → missedSlot s slot ≡ freed
 unfolding missedSlot unpairedBytes
 missed-dropped s slot e = rw e
 

@@ -1,4 +1,4 @@
--- The loop that settles the slots, and the loop that counts the missed tracks. Assumes nothing.
+-- The loop that settles the slots, and the loop that counts the missed tracks.
 use Prim.Native.Nat.{ℕ, _+_, _≤_, _<_}
 use mathlib.Core.Path.{_≡_, refl, sym, _∙_}
 use mathlib.Core.Bool.{Bool, true, false, cond}
@@ -12,14 +12,15 @@ use Rattle.laws.proofs.InPlace.{map-at}
 use Rattle.laws.proofs.Places.{not-placed, indices-distinct}
 use Rattle.laws.proofs.Sums.{sum-none, sum-more, sum-done}
 use Rattle.laws.proofs.Tests.{clash}
-use Rattle.records.specs.Bytes.{at, trackOf, slotDue}
+use Rattle.laws.specs.Lists.{at}
+use Rattle.records.specs.Bytes.{trackOf, slotDue}
 use Rattle.settling.specs.declared.Unpaired.{Unpaired}
-use Rattle.settling.specs.Settle.{Settleable, coastedOf}
+use Rattle.settling.specs.Settle.{Settleable, withoutPair}
 use Rattle.settling.proofs.HandedOn.{settleable}
 use Rattle.matching.specs.Pairing.{none}
 use Rattle.intake.specs.Refusals.{Input, dueSlots, mostSlots, mostDue, Ready}
 use Rattle.scoresheet.proofs.Due.{dueSlot, due-lies, due-is-due, due-well-formed}
-use Rattle.walk.specs.Table.{restedSlot, settledSlot, slotPrice, noPrice, settledTable, slotPrices, keptOne, droppedOne, missedAt, missedSum}
+use Rattle.walk.specs.Table.{restedSlot, settledSlot, slotPrice, noPrice, settledTable, slotPrices, coastedOne, droppedOne, missedAt, missedSum}
 use Rattle.walk.specs.Counting.{Settles, SlotSettles, DueSettles, DuePriced}
 use Rattle.walk.proofs.Settled.{rankOf, due-at-rank, settled-length, settled-at, prices-length, price-at}
 
@@ -120,7 +121,7 @@ module _ (i : Input) where
 
 pub record MissedSoFar (table : List (List ℕ)) (sector : ℕ) (due P : List ℕ) (coasted dropped i : ℕ) : Type 0 where
   pub upto : i ≤ length due
-  pub coasts : coasted ≡ missedSum keptOne table sector i P
+  pub coasts : coasted ≡ missedSum coastedOne table sector i P
   pub drops : dropped ≡ missedSum droppedOne table sector i P
   pub few : (coasted ≤ i) × (dropped ≤ i)
 
@@ -130,9 +131,9 @@ missed-none table sector due P = record { upto = omega arith; coasts = sum-none 
 
 -- what one place adds to a sum
 abbrev Adds : (Unpaired → ℕ) → (table : List (List ℕ)) (sector : ℕ) (due P : List ℕ) (i x : ℕ) → Type 0
-Adds one table sector due P i x = (x ≡ cond (eqb (at P i) none) (one (coastedOf (trackOf (getD table (getD due i 0) [])) sector)) 0) × (x ≤ 1)
+Adds one table sector due P i x = (x ≡ cond (eqb (at P i) none) (one (withoutPair (trackOf (getD table (getD due i 0) [])) sector)) 0) × (x ≤ 1)
 
-pub missed-more : {table : List (List ℕ)} {sector : ℕ} {due P : List ℕ} {coasted dropped i x y : ℕ} → MissedSoFar table sector due P coasted dropped i → i < length due → due ≡ dueSlots table → Adds keptOne table sector due P i x → Adds droppedOne table sector due P i y → MissedSoFar table sector due P (coasted + x) (dropped + y) (i + 1)
+pub missed-more : {table : List (List ℕ)} {sector : ℕ} {due P : List ℕ} {coasted dropped i x y : ℕ} → MissedSoFar table sector due P coasted dropped i → i < length due → due ≡ dueSlots table → Adds coastedOne table sector due P i x → Adds droppedOne table sector due P i y → MissedSoFar table sector due P (coasted + x) (dropped + y) (i + 1)
 unfolding missedSum missedAt
 missed-more {table} {sector} {due} {P} {coasted} {dropped} {i} {x} {y} w h d p q = record {
   upto = omega arith;
@@ -141,7 +142,7 @@ missed-more {table} {sector} {due} {P} {coasted} {dropped} {i} {x} {y} w h d p q
   few = (omega (arith, w .few .0, p .1), omega (arith, w .few .1, q .1));
 }
 
-pub missed-end : {table : List (List ℕ)} {sector : ℕ} {due P : List ℕ} {coasted dropped i : ℕ} → MissedSoFar table sector due P coasted dropped i → length due ≤ i → (coasted ≡ missedSum keptOne table sector (length due) P) × (dropped ≡ missedSum droppedOne table sector (length due) P)
+pub missed-end : {table : List (List ℕ)} {sector : ℕ} {due P : List ℕ} {coasted dropped i : ℕ} → MissedSoFar table sector due P coasted dropped i → length due ≤ i → (coasted ≡ missedSum coastedOne table sector (length due) P) × (dropped ≡ missedSum droppedOne table sector (length due) P)
 unfolding missedSum
 missed-end {table} {sector} {due} {P} {coasted} {dropped} {i} w h =
     (sum-done i (length due) coasted _ (w .upto) h (w .coasts), sum-done i (length due) dropped _ (w .upto) h (w .drops))

@@ -1,4 +1,4 @@
--- What the loop over the slots counts on. Assumes nothing.
+-- What the loop over the slots counts on.
 use Prim.Native.Nat.{ℕ, _≤_, _<_}
 use mathlib.Core.Path.{_≡_}
 use mathlib.Core.Bool.{true}
@@ -6,7 +6,8 @@ use mathlib.Core.List.{List, []}
 use lib.ListN.{length, getD}
 use Rattle.numbers.specs.Scales.{sectors}
 use Rattle.records.specs.Fields.{trackFields, reportFields, badReportField}
-use Rattle.records.specs.Bytes.{at, reportOf, badSlotField, slotDue}
+use Rattle.laws.specs.Lists.{at}
+use Rattle.records.specs.Bytes.{reportOf, badSlotField, slotDue}
 use Rattle.matching.specs.Pairing.{none}
 use Rattle.intake.specs.Refusals.{Input, mostSlots, dueSlots}
 use Rattle.laws.specs.Places.{Distinct}

@@ -1,16 +1,16 @@
--- The table after pairing, before any track starts (01, 'After pairing'). Assumes nothing.
+-- The table after pairing, before any track starts (01, 'After pairing').
 use Prim.Native.Nat.{ℕ, _+_}
 use mathlib.Core.Bool.{cond}
 use mathlib.Core.List.{List, []}
 use lib.Dec.{eqb}
 use lib.ListN.{getD, replicate}
-use Rattle.laws.specs.Lists.{outs}
+use Rattle.laws.specs.Lists.{at, outs}
 use Rattle.laws.specs.Sums.{Sum}
 use Rattle.records.specs.Fields.{held}
-use Rattle.records.specs.Bytes.{at, slotBytes, markAt, trackOf, bytesOf, reportOf, slotDue}
+use Rattle.records.specs.Bytes.{slotBytes, markAt, trackOf, bytesOf, reportOf, slotDue}
 use Rattle.settling.specs.declared.Unpaired.{Unpaired}
-use Rattle.settling.specs.declared.Unpaired.the-variants.{Kept, Dropped}
-use Rattle.settling.specs.Settle.{updatedOf, coastedOf, agedOf}
+use Rattle.settling.specs.declared.Unpaired.the-variants.{Coasts, Dropped}
+use Rattle.settling.specs.Settle.{updatedOf, withoutPair, agedOf}
 use Rattle.matching.specs.Pairing.{none}
 use Rattle.intake.specs.Refusals.{Input, dueSlots}
 
@@ -24,11 +24,11 @@ pairedSlot sector report slot = bytesOf (updatedOf (trackOf slot) (reportOf repo
 
 -- a due track without a pair
 unfoldable pub unpairedBytes : Unpaired → List ℕ
-unpairedBytes (Kept t) = bytesOf t
+unpairedBytes (Coasts t) = bytesOf t
 unpairedBytes Dropped = freed
 
 unfoldable pub missedSlot : (sector : ℕ) (slot : List ℕ) → List ℕ
-missedSlot sector slot = unpairedBytes (coastedOf (trackOf slot) sector)
+missedSlot sector slot = unpairedBytes (withoutPair (trackOf slot) sector)
 
 -- a slot that is not due: other held tracks lose 1 from their wait, a free slot keeps its bytes
 unfoldable pub agedSlot : List ℕ → List ℕ
@@ -65,24 +65,24 @@ slotPrices i prices = outs dueRank (slotPrice prices) (i .table) 0
 -- ---- the counts of due tracks without a pair
 
 -- a due track that is left out counts 1 where it is kept, or where it is dropped
-unfoldable pub keptOne : Unpaired → ℕ
-keptOne (Kept t) = 1
-keptOne Dropped = 0
+unfoldable pub coastedOne : Unpaired → ℕ
+coastedOne (Coasts t) = 1
+coastedOne Dropped = 0
 
 unfoldable pub droppedOne : Unpaired → ℕ
-droppedOne (Kept t) = 0
+droppedOne (Coasts t) = 0
 droppedOne Dropped = 1
 
 -- what becomes of the due track at a place of the pairing that is left out there
 unfoldable pub missedAt : (table : List (List ℕ)) (sector rank : ℕ) → Unpaired
-missedAt table sector rank = coastedOf (trackOf (getD table (getD (dueSlots table) rank 0) [])) sector
+missedAt table sector rank = withoutPair (trackOf (getD table (getD (dueSlots table) rank 0) [])) sector
 
 -- a sum over the places that are left out
 unfoldable pub missedSum : (Unpaired → ℕ) → (table : List (List ℕ)) (sector tracks : ℕ) (P : List ℕ) → ℕ
 missedSum one table sector tracks P = Sum tracks (λ rank. cond (eqb (at P rank) none) (one (missedAt table sector rank)) 0)
 
 unfoldable pub coastedCount : Input → ℕ → List ℕ → ℕ
-coastedCount i tracks P = missedSum keptOne (i .table) (i .sector) tracks P
+coastedCount i tracks P = missedSum coastedOne (i .table) (i .sector) tracks P
 
 unfoldable pub droppedCount : Input → ℕ → List ℕ → ℕ
 droppedCount i tracks P = missedSum droppedOne (i .table) (i .sector) tracks P

@@ -7,13 +7,14 @@ ghost use lib.Dec.{eqb};
 ghost use lib.ListN.{length, getD, drop};
 ghost use Rattle.numbers.specs.Scales.{sectors};
 ghost use Rattle.records.specs.Fields.{WellFormed, Sound};
-ghost use Rattle.records.specs.Bytes.{at, trackOf, reportOf, slotDue};
-ghost use Rattle.settling.specs.Settle.{Settleable, coastedOf};
+ghost use Rattle.laws.specs.Lists.{at};
+ghost use Rattle.records.specs.Bytes.{trackOf, reportOf, slotDue};
+ghost use Rattle.settling.specs.Settle.{Settleable, withoutPair};
 ghost use Rattle.matching.specs.Pairing.{none};
 ghost use Rattle.intake.specs.Refusals.{input, dueSlots, Ready};
 ghost use Rattle.laws.specs.Places.{Placed};
 ghost use Rattle.walk.specs.Table.{agedSlot, missedSlot, pairedSlot, restedSlot, settledSlot, noPrice, settledTable, slotPrices};
-ghost use Rattle.walk.specs.Table.{keptOne, droppedOne, coastedCount, droppedCount};
+ghost use Rattle.walk.specs.Table.{coastedOne, droppedOne, coastedCount, droppedCount};
 ghost use Rattle.walk.specs.Counting.{Settles, SlotSettles, DueSettles, DuePriced};
 use records::Site;
 use settling::Unpaired;
@@ -32,7 +33,8 @@ fn age_slot(mut slot: [u8; records::SLOT_BYTES]) -> [u8; records::SLOT_BYTES]
     if slot[records::MARK_AT] != records::HELD {
         return slot;
     }
-    slot[records::WAIT_AT] -= 1;
+    let aged = settling::aged(records::unpack(slot));
+    slot[records::WAIT_AT] = aged.wait;
     slot
 }
 
@@ -42,9 +44,9 @@ fn missed_slot(slot: [u8; records::SLOT_BYTES], sector: u8) -> [u8; records::SLO
     requires { ⌜ sector < sectors ⌝ }
     ensures { λ r. ⌜ r ≡ missedSlot sector slot ⌝ }
 {
-    let outcome = settling::coasted(records::unpack(slot), sector);
+    let outcome = settling::without_pair(records::unpack(slot), sector);
     match outcome {
-        Unpaired::Kept(t) => records::pack(t),
+        Unpaired::Coasts(t) => records::pack(t),
         Unpaired::Dropped => [0u8; records::SLOT_BYTES],
     }
 }
@@ -189,8 +191,8 @@ pub fn settle_table(
 fn missed_one(slot: [u8; records::SLOT_BYTES], number: u32, sector: u8) -> Missed
     requires { ⌜ Settleable (trackOf slot) ⌝ }
     requires { ⌜ sector < sectors ⌝ }
-    ensures { λ r. ⌜ (r .coasted ≡ cond (eqb number none) (keptOne (coastedOf (trackOf slot) sector)) 0) × (r .coasted ≤ 1) ⌝ }
-    ensures { λ r. ⌜ (r .dropped ≡ cond (eqb number none) (droppedOne (coastedOf (trackOf slot) sector)) 0) × (r .dropped ≤ 1) ⌝ }
+    ensures { λ r. ⌜ (r .coasted ≡ cond (eqb number none) (coastedOne (withoutPair (trackOf slot) sector)) 0) × (r .coasted ≤ 1) ⌝ }
+    ensures { λ r. ⌜ (r .dropped ≡ cond (eqb number none) (droppedOne (withoutPair (trackOf slot) sector)) 0) × (r .dropped ≤ 1) ⌝ }
 {
     if number != matching::NONE {
         return Missed {
@@ -198,9 +200,9 @@ fn missed_one(slot: [u8; records::SLOT_BYTES], number: u32, sector: u8) -> Misse
             dropped: 0,
         };
     }
-    let outcome = settling::coasted(records::unpack(slot), sector);
+    let outcome = settling::without_pair(records::unpack(slot), sector);
     match outcome {
-        Unpaired::Kept(_) => Missed {
+        Unpaired::Coasts(_) => Missed {
             coasted: 1,
             dropped: 0,
         },

@@ -1,4 +1,4 @@
--- The loop's invariant: the confidence is at most one past the last. Assumes nothing.
+-- The loop's invariant: the confidence is at most one past the last.
 use Prim.Native.Nat.{_+_, _-_, _≤_}
 use borrow.Author.Needs.{needs}
 use Rattle.records.specs.Fields.{confidenceMost}

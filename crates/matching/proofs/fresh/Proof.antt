@@ -6,7 +6,7 @@ use borrow.Author.Needs.{needs}
 use borrow.Author.Tests.{ne-eqb, eq-eqb}
 use Rattle.laws.specs.Tests.{each}
 use Rattle.laws.proofs.Tests.{each-none, each-more, each-done, each-fails}
-use Rattle.matching.specs.Pairing.{at}
+use Rattle.laws.specs.Lists.{at}
 use Rattle.matching.proofs.fresh.Statement.{statement}
 use Rattle.matching.proofs.fresh.Tie as tie
 

@@ -6,7 +6,8 @@ use borrow.Author.Needs.{needs}
 use borrow.Author.Tests.{le-leb, lt-leb}
 use Rattle.laws.specs.Tests.{each}
 use Rattle.laws.proofs.Tests.{each-none, each-more, each-done, each-fails}
-use Rattle.matching.specs.Pairing.{leftOut, at}
+use Rattle.laws.specs.Lists.{at}
+use Rattle.matching.specs.Pairing.{leftOut}
 use Rattle.matching.specs.Answer.{numbersOk}
 use Rattle.matching.proofs.numbers_ok.Statement.{statement}
 use Rattle.matching.proofs.numbers_ok.Tie as tie

@@ -5,7 +5,7 @@ use borrow.Author.Needs.{needs}
 use borrow.Author.Tests.{not-true, not-false}
 use Rattle.laws.specs.Tests.{each}
 use Rattle.laws.proofs.Tests.{each-none, each-more, each-done, each-fails}
-use Rattle.matching.specs.Pairing.{at}
+use Rattle.laws.specs.Lists.{at}
 use Rattle.matching.specs.Answer.{pairOk}
 use Rattle.matching.proofs.row_ok.Statement.{statement}
 use Rattle.matching.proofs.row_ok.Tie as tie

@@ -7,7 +7,8 @@ use borrow.Author.Tests.{not-true, not-false}
 use Rattle.laws.specs.Tests.{each}
 use Rattle.laws.proofs.Tests.{each-none, each-more, each-done, each-fails}
 use Rattle.laws.proofs.Sums.{row-in}
-use Rattle.matching.specs.Pairing.{at, sheetOf}
+use Rattle.laws.specs.Lists.{at}
+use Rattle.matching.specs.Pairing.{sheetOf}
 use Rattle.matching.specs.Answer.{rowOk, scoresOk}
 use Rattle.matching.proofs.scores_ok.Statement.{statement}
 use Rattle.matching.proofs.scores_ok.Tie as tie

@@ -6,7 +6,7 @@ use native.Mathlib.Omega.{arith}
 use borrow.Author.Needs.{needs}
 use Rattle.laws.specs.Sums.{Sum}
 use Rattle.laws.proofs.Sums.{sum-none, sum-more, sum-done, bit-small, count-upto}
-use Rattle.matching.specs.Pairing.{at}
+use Rattle.laws.specs.Lists.{at}
 use Rattle.matching.specs.Answer.{cellOk}
 use Rattle.matching.proofs.strays.Statement.{statement}
 use Rattle.matching.proofs.strays.Tie as tie

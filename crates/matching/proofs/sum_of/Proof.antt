@@ -4,7 +4,7 @@ use native.Mathlib.Omega.{arith}
 use borrow.Author.Needs.{needs}
 use Rattle.laws.specs.Sums.{Sum}
 use Rattle.laws.proofs.Sums.{sum-none, sum-more, sum-done}
-use Rattle.matching.specs.Pairing.{at}
+use Rattle.laws.specs.Lists.{at}
 use Rattle.matching.proofs.sum_of.Statement.{statement}
 use Rattle.matching.proofs.sum_of.Tie as tie
 

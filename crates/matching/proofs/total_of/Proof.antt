@@ -4,7 +4,8 @@ use native.Mathlib.Omega.{arith}
 use borrow.Author.Needs.{needs}
 use Rattle.laws.specs.Sums.{Sum}
 use Rattle.laws.proofs.Sums.{sum-none, sum-more, sum-done, row-in}
-use Rattle.matching.specs.Pairing.{leftOut, scoreOr, total, at, sheetOf}
+use Rattle.laws.specs.Lists.{at}
+use Rattle.matching.specs.Pairing.{leftOut, scoreOr, total, sheetOf}
 use Rattle.matching.proofs.Facts as facts
 use Rattle.matching.proofs.total_of.Statement.{statement}
 use Rattle.matching.proofs.total_of.Tie as tie

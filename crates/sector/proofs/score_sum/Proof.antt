@@ -5,7 +5,8 @@ use borrow.Author.Needs.{needs}
 use lib.ListN.{length}
 use Rattle.laws.specs.Sums.{Sum}
 use Rattle.laws.proofs.Sums.{sum-none, sum-more, sum-done}
-use Rattle.matching.specs.Pairing.{at, scoreEnd, sheetOf, scoreOr, scoreSum}
+use Rattle.laws.specs.Lists.{at}
+use Rattle.matching.specs.Pairing.{scoreEnd, sheetOf, scoreOr, scoreSum}
 use Rattle.sector.proofs.score_sum.Statement.{statement}
 use Rattle.sector.proofs.score_sum.Tie as tie
 

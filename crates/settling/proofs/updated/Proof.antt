@@ -1,5 +1,5 @@
 use Rattle.numbers.proofs.WholeLaws.{int-is}
-use Rattle.settling.specs.Settle.{updatedOf, rangeD, azimuthD, updatedRange, updatedAzimuth, updatedRangeSpeed, updatedAzimuthSpeed}
+use Rattle.settling.specs.Settle.{updatedOf, updatedRange, updatedAzimuth, updatedRangeSpeed, updatedAzimuthSpeed}
 use borrow.Author.Needs.{needs}
 use Rattle.settling.proofs.updated.Statement.{statement}
 use Rattle.settling.proofs.updated.Tie as tie
@@ -47,7 +47,7 @@ wait-after-requires : tie.Need-wait-after-requires
 wait-after-requires c κs = c .before .before .before .before .before .before .before .before .before .before .before .before .before .before .pre .1 .1
 
 returns : tie.Need-returns
-unfolding updatedOf updatedRange updatedAzimuth updatedRangeSpeed updatedAzimuthSpeed rangeD azimuthD
+unfolding updatedOf updatedRange updatedAzimuth updatedRangeSpeed updatedAzimuthSpeed
 returns c =
     let v = c .before .before .before .before .before .before in
     let d = v .before .before .before .before in

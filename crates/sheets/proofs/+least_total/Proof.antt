@@ -1,4 +1,4 @@
--- Every way to pair the tracks from i on. The measure: a track more outweighs every report. Assumes nothing.
+-- Every way to pair the tracks from i on. The measure: a track more outweighs every report.
 use Rattle.laws.proofs.Sums.{row-in}
 use lib.ListN.{length}
 use borrow.Author.Needs.{needs}

@@ -1,6 +1,8 @@
-use Rattle.walk.proofs.Slots.{waits-on, aged-byte}
+use Rattle.walk.proofs.Slots.{track-waits-on, aged-byte}
+use Rattle.laws.specs.Lists.{at}
 use Rattle.records.proofs.RoundTrips.{Bytes}
-use Rattle.records.specs.Bytes.{slotBytes, at}
+use Rattle.records.specs.Bytes.{slotBytes, trackOf}
+use Rattle.settling.specs.Settle.{agedOf}
 use native.Mathlib.Omega.{arith}
 use mathlib.Core.Path.{sym}
 use mir.Val.{Fits}
@@ -18,21 +20,24 @@ returns : tie.Need-returns
 unfolding agedSlot
 returns c = rw (ne-eqb _ _ (c .if1 .taken))
 
-array-read-slot : tie.Need-array-read-slot
-array-read-slot c = search needs
+unpack-requires : tie.Need-unpack-requires
+unpack-requires c κs = search needs
 
-sub-slot : tie.Need-sub-slot
-sub-slot c = omega (arith, waits-on (c .before .args .t1) (c .before .pre) (c .if1 .left))
+aged-requires : tie.Need-aged-requires
+aged-requires c κs = rw (c .unpack .ensures) (track-waits-on (c .before .before .args .t1) (c .before .before .pre) (c .before .if1 .left))
 
 array-write-slot : tie.Need-array-write-slot
 array-write-slot c = search needs
 
 returns-2 : tie.Need-returns-2
+unfolding agedOf trackOf
 returns-2 c =
-    let b : Bytes slotBytes (c .before .args .t1) =
-    record { count = search needs; small = λ k h. let f : Fits w8 (at (c .before .args .t1) k) = search needs in omega (arith, f .fits) } in
-    sym (aged-byte _ b (c .if1 .left))
+    let s = c .before .before .before .args in
+    let b : Bytes slotBytes (s .t1) =
+    record { count = search needs; small = λ k h. let f : Fits w8 (at (s .t1) k) = search needs in omega (arith, f .fits) } in
+    rw (c .aged .ensures, c .before .unpack .ensures) (sym (aged-byte _ b (c .before .before .if1 .left)))
 
 pub age-slot-spec : {M : Type 1} → statement M
 age-slot-spec =
-    tie.close (tie.spec array-read-if1 returns array-read-slot sub-slot array-write-slot returns-2)
+    tie.close
+    (tie.spec array-read-if1 returns unpack-requires aged-requires array-write-slot returns-2)

@@ -1,8 +1,8 @@
 use Rattle.records.specs.Bytes.{trackOf}
-use Rattle.settling.specs.Settle.{coastedOf}
-use Rattle.settling.specs.declared.Unpaired.the-variants.{Kept, Dropped}
+use Rattle.settling.specs.Settle.{withoutPair}
+use Rattle.settling.specs.declared.Unpaired.the-variants.{Coasts, Dropped}
 use mathlib.Core.Path.{_≡_, refl}
-use Rattle.walk.specs.Table.{keptOne, droppedOne}
+use Rattle.walk.specs.Table.{coastedOne, droppedOne}
 use borrow.Author.Tests.{eq-eqb, ne-eqb}
 use native.Mathlib.Omega.{arith}
 use borrow.Author.Needs.{needs}
@@ -15,8 +15,8 @@ returns c = rw (ne-eqb _ _ (c .if1 .taken)) ((refl, omega arith), (refl, omega a
 unpack-requires : tie.Need-unpack-requires
 unpack-requires c κs = search needs
 
-coasted-requires : tie.Need-coasted-requires
-coasted-requires c κs = let s = c .before .before in (rw (c .unpack .ensures) (s .pre .0), s .pre .1)
+without-pair-requires : tie.Need-without-pair-requires
+without-pair-requires c κs = let s = c .before .before in (rw (c .unpack .ensures) (s .pre .0), s .pre .1)
 
 enum-told : tie.Need-enum-told
 enum-told c = search needs
@@ -25,20 +25,20 @@ enum-told-2 : tie.Need-enum-told-2
 enum-told-2 c = search needs
 
 returns-2 : tie.Need-returns-2
-unfolding keptOne droppedOne
+unfolding coastedOne droppedOne
 returns-2 c =
     let s = c .before .before .before .before .before in
-    let k : coastedOf (trackOf (s .args .slot)) (s .args .sector) ≡ Kept (c .enum-told .given .0 .0) = cc in
+    let k : withoutPair (trackOf (s .args .slot)) (s .args .sector) ≡ Coasts (c .enum-told .given .0 .0) = cc in
     rw (eq-eqb _ _ (c .before .before .before .before .if1 .left), k) ((refl, omega arith), (refl, omega arith))
 
 returns-3 : tie.Need-returns-3
-unfolding keptOne droppedOne
+unfolding coastedOne droppedOne
 returns-3 c =
     let s = c .before .before .before .before .before in
-    let k : coastedOf (trackOf (s .args .slot)) (s .args .sector) ≡ Dropped = cc in
+    let k : withoutPair (trackOf (s .args .slot)) (s .args .sector) ≡ Dropped = cc in
     rw (eq-eqb _ _ (c .before .before .before .before .if1 .left), k) ((refl, omega arith), (refl, omega arith))
 
 pub missed-one-spec : {M : Type 1} → statement M
 missed-one-spec =
     tie.close
-    (tie.spec returns unpack-requires coasted-requires enum-told enum-told-2 returns-2 returns-3)
+    (tie.spec returns unpack-requires without-pair-requires enum-told enum-told-2 returns-2 returns-3)

@@ -1,7 +1,7 @@
 use Rattle.records.specs.Bytes.{trackOf}
 use Rattle.walk.proofs.Slots.{missed-kept, missed-dropped, speeds-fit}
-use Rattle.settling.specs.declared.Unpaired.the-variants.{Kept, Dropped}
-use Rattle.settling.specs.Settle.{coastedOf}
+use Rattle.settling.specs.declared.Unpaired.the-variants.{Coasts, Dropped}
+use Rattle.settling.specs.Settle.{withoutPair}
 use mathlib.Core.Path.{_≡_, _∙_, sym}
 use Rattle.walk.specs.Table.{freed}
 use Rattle.settling.proofs.HandedOn.{settleable, coasted-served}
@@ -12,8 +12,8 @@ use Rattle.walk.proofs.missed_slot.Tie as tie
 unpack-requires : tie.Need-unpack-requires
 unpack-requires c κs = search needs
 
-coasted-requires : tie.Need-coasted-requires
-coasted-requires c κs = let w = c .before .pre in (rw (c .unpack .ensures) (settleable (w .0)), w .1)
+without-pair-requires : tie.Need-without-pair-requires
+without-pair-requires c κs = let w = c .before .pre in (rw (c .unpack .ensures) (settleable (w .0)), w .1)
 
 enum-known-outcome : tie.Need-enum-known-outcome
 enum-known-outcome c = search needs
@@ -21,7 +21,7 @@ enum-known-outcome c = search needs
 pack-requires : tie.Need-pack-requires
 pack-requires c κs =
     let s = c .before .before .before .before .before in
-    let k : coastedOf (trackOf (s .args .slot)) (s .args .sector) ≡ Kept (c .before .outcome .given .0 .0) = cc in
+    let k : withoutPair (trackOf (s .args .slot)) (s .args .sector) ≡ Coasts (c .before .outcome .given .0 .0) = cc in
     speeds-fit (coasted-served _ _ _ (s .pre .1) (s .pre .0) k .well)
 
 enum-told : tie.Need-enum-told
@@ -30,14 +30,14 @@ enum-told c = search needs
 returns : tie.Need-returns
 returns c =
     let s = c .before .before .before .before .before .before in
-    let k : coastedOf (trackOf (s .args .slot)) (s .args .sector) ≡ Kept (c .before .before .outcome .given .0 .0) = cc in
+    let k : withoutPair (trackOf (s .args .slot)) (s .args .sector) ≡ Coasts (c .before .before .outcome .given .0 .0) = cc in
     c .pack .ensures ∙ sym (missed-kept _ _ _ k)
 
 returns-2 : tie.Need-returns-2
 unfolding freed
 returns-2 c =
     let s = c .before .before .before .before in
-    let k : coastedOf (trackOf (s .args .slot)) (s .args .sector) ≡ Dropped = cc in
+    let k : withoutPair (trackOf (s .args .slot)) (s .args .sector) ≡ Dropped = cc in
     sym (missed-dropped _ _ k)
 
 pub missed-slot-spec : {M : Type 1} → statement M
@@ -45,7 +45,7 @@ missed-slot-spec =
     tie.close
     (tie.spec
     unpack-requires
-    coasted-requires
+    without-pair-requires
     enum-known-outcome
     pack-requires
     enum-told

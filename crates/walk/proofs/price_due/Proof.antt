@@ -5,7 +5,7 @@ use lib.ListN.{length}
 use borrow.Author.Needs.{needs}
 use Rattle.laws.specs.Places.{Placed}
 use Rattle.laws.proofs.Places.{placed-none, placed-more, placed-end}
-use Rattle.records.specs.Bytes.{at}
+use Rattle.laws.specs.Lists.{at}
 use Rattle.walk.proofs.price_due.Statement.{statement}
 use Rattle.walk.proofs.price_due.Tie as tie
 

@@ -1,17 +1,17 @@
 use Prim.Native.Nat.{_+_}
 use Rattle.records.specs.Fields.{allowance}
-use Rattle.settling.specs.Settle.{coastedOf, missedOf}
+use Rattle.settling.specs.Settle.{withoutPair, coastedOf}
 use native.Mathlib.Omega.{arith}
 use borrow.Author.Tests.{lt-ltb, le-ltb}
 use borrow.Author.Needs.{needs}
-use Rattle.settling.proofs.coasted.Statement.{statement}
-use Rattle.settling.proofs.coasted.Tie as tie
+use Rattle.settling.proofs.without_pair.Statement.{statement}
+use Rattle.settling.proofs.without_pair.Tie as tie
 
 allowed-misses-requires : tie.Need-allowed-misses-requires
 allowed-misses-requires c κs = search needs
 
 returns : tie.Need-returns
-unfolding coastedOf
+unfolding withoutPair
 returns c =
     let s = c .before .before .before in
     rw (lt-ltb (allowance (s .args .t .updates)) (s .args .t .misses + 1) (omega arith))
@@ -29,13 +29,13 @@ wait-after-requires : tie.Need-wait-after-requires
 wait-after-requires c κs = search needs
 
 returns-2 : tie.Need-returns-2
-unfolding coastedOf missedOf
+unfolding withoutPair coastedOf
 returns-2 c =
     let s = c .before .before .before .before .before .before .before .before .before in
     rw (le-ltb (allowance (s .args .t .updates)) (s .args .t .misses + 1) (omega arith), c .wait-after .ensures, c .before .before .range-ahead .ensures, c .before .before .before .azimuth-ahead .ensures)
 
-pub coasted-spec : {M : Type 1} → statement M
-coasted-spec =
+pub without-pair-spec : {M : Type 1} → statement M
+without-pair-spec =
     tie.close
     (tie.spec
     allowed-misses-requires
