@@ -1,4 +1,4 @@
--- The start: a track's price is set, and a free report of that score given to it; and the cases of a visit. Assumes nothing.
+-- The start: a track's price is set, and a free report of that score given to it; and the cases of a visit.
 use Prim.Native.Nat.{ℕ, _+_, _*_, _≤_, _<_}
 use mathlib.Core.Path.{_≡_, refl, ap, sym, subst, _∙_}
 use mathlib.Core.List.{List}
@@ -6,7 +6,8 @@ use mathlib.Core.Logic.{inl, inr, ⊎-elim}
 use native.Mathlib.Omega.{arith}
 use lib.ListN.{length, set, length-set}
 use lib.Seq.{getD-set-same, getD-set-other}
-use Rattle.matching.specs.Pairing.{none, leftOut, at}
+use Rattle.laws.specs.Lists.{at}
+use Rattle.matching.specs.Pairing.{none, leftOut}
 use Rattle.passes.specs.Cells.{far, IsCell, mostColumns}
 use Rattle.paths.specs.State.{cell, Shape, Own, Match, Good, Done, Ready, Inserted}
 use Rattle.engine.specs.State.{Fresh, Claimed, Visit}

@@ -1,4 +1,4 @@
--- The call's two ends: refused, or served by what the engine gives for the sheet's own cells. Assumes nothing.
+-- The call's two ends: refused, or served by what the engine gives for the sheet's own cells.
 use Prim.Native.Nat.{ℕ, zero, suc, _*_, _<_}
 use mathlib.Core.Path.{_≡_, refl, ap, sym, _∙_}
 use mathlib.Core.Bool.{true}
@@ -11,7 +11,8 @@ use lib.Seq.{drop-at, getD-take, length-take-le}
 use borrow.Author.Tests.{ne-eqb, ltb-true}
 use Rattle.laws.proofs.Stores.{same-or}
 use Rattle.laws.proofs.Tests.{or-second, each-at}
-use Rattle.matching.specs.Pairing.{none, scoreEnd, at}
+use Rattle.laws.specs.Lists.{at}
+use Rattle.matching.specs.Pairing.{none, scoreEnd}
 use Rattle.matching.specs.Answer.{Sizes, Fits, cellOk, cellsOk, checkAnswer}
 use Rattle.matching.proofs.Facts.{cells-ok}
 use Rattle.matching.proofs.Theorems.{not-refused, certificate-zero, beyond-is-not-read}

@@ -1,5 +1,5 @@
 -- What the engine ends with is a certificate: each track's price is its score and its report's discount, and only paired reports have one.
--- Assumes nothing.
+--
 use Prim.Native.Nat.{ℕ, zero, suc, _+_, _*_, _≤_, _<_}
 use mathlib.Core.Path.{_≡_, refl, ap, sym, _∙_}
 use mathlib.Core.List.{List}
@@ -12,7 +12,8 @@ use borrow.Author.Tests.{lt-ltb, le-ltb, eq-eqb, ne-eqb}
 use Rattle.laws.specs.Sums.{Sum}
 use Rattle.laws.proofs.Sums.{sum-same, sum-add, sum-zero, sum-one, row-in}
 use Rattle.laws.proofs.Stores.{le-or-lt, same-or}
-use Rattle.matching.specs.Pairing.{none, scoreEnd, leftOut, Sheet, Admissible, Paired, ValidPairing, scoreOr, total, Certificate, at, sheetOf}
+use Rattle.laws.specs.Lists.{at}
+use Rattle.matching.specs.Pairing.{none, scoreEnd, leftOut, Sheet, Admissible, Paired, ValidPairing, scoreOr, total, Certificate, sheetOf}
 use Rattle.paths.specs.State.{cell, Own}
 use Rattle.engine.specs.State.{Solved}
 

@@ -1,10 +1,11 @@
--- What the pairing call's promise is worth: for n tracks, m reports and a sheet s, with the lists p, u, v lent. Assumes nothing.
+-- What the pairing call's promise is worth: for n tracks, m reports and a sheet s, with the lists p, u, v lent.
 use Prim.Native.Nat.{ℕ, _≤_}
 use mathlib.Core.Path.{_≡_, ap, sym, _∙_}
 use mathlib.Core.List.{List}
 use native.Mathlib.Omega.{arith}
 use lib.ListN.{length, drop, length-drop}
-use Rattle.matching.specs.Pairing.{Best, at, sheetOf}
+use Rattle.laws.specs.Lists.{at}
+use Rattle.matching.specs.Pairing.{Best, sheetOf}
 use Rattle.matching.specs.Answer.{Fits, checkAnswer}
 use Rattle.matching.proofs.Theorems.{Agree, Accepted, zero-certificate, zero-is-best, best-is-zero, best-agree, zero-says}
 use Rattle.engine.specs.declared.Paired.{Paired}

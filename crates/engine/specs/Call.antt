@@ -1,4 +1,4 @@
--- 01, 'Pairing': the call that gives the pairing, prices and discounts of any sheet. Assumes nothing.
+-- 01, 'Pairing': the call that gives the pairing, prices and discounts of any sheet.
 use Prim.Native.Nat.{ℕ, zero, suc}
 use mathlib.Core.Path.{_≡_}
 use mathlib.Core.List.{List}

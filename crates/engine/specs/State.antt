@@ -1,9 +1,10 @@
--- The engine's stages: what the start, a visit and the whole ask and give. Assumes nothing.
+-- The engine's stages: what the start, a visit and the whole ask and give.
 use Prim.Native.Nat.{ℕ, _*_, _≤_, _<_}
 use mathlib.Core.Path.{_≡_}
 use mathlib.Core.List.{List}
 use lib.ListN.{length}
-use Rattle.matching.specs.Pairing.{none, mostTracks, Certificate, at, sheetOf}
+use Rattle.laws.specs.Lists.{at}
+use Rattle.matching.specs.Pairing.{none, mostTracks, Certificate, sheetOf}
 use Rattle.passes.specs.Cells.{IsCell}
 use Rattle.paths.specs.State.{widest, cell, Shape, Good, Done}
 

@@ -1,4 +1,4 @@
--- A nearest report among those from lo on is a nearest one, where those before are closed. Assumes nothing.
+-- A nearest report among those from lo on is a nearest one, where those before are closed.
 use Prim.Native.Nat.{ℕ, _+_, _-_, _≤_, _<_, _^_}
 use mathlib.Core.Path.{_≡_, ap, sym, _∙_}
 use mathlib.Core.List.{List}
@@ -7,7 +7,7 @@ use native.Mathlib.Omega.{arith}
 use lib.ListN.{length}
 use Rattle.laws.proofs.Stores.{le-or-lt}
 use Rattle.laws.proofs.Parts.{part, part-length, part-at}
-use Rattle.matching.specs.Pairing.{at}
+use Rattle.laws.specs.Lists.{at}
 use Rattle.passes.specs.Cells.{Labels, FromLabels, Nearest}
 
 module _ (lo : ℕ) (dist shut : List ℕ) (cap : ℕ) (F : FromLabels lo dist shut cap) where

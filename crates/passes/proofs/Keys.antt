@@ -1,11 +1,12 @@
--- Signed tests of small numbers; score and column in one number. Assumes nothing.
+-- Signed tests of small numbers; score and column in one number.
 use Prim.Native.Nat.{ℕ, _+_, _*_, _/_, _%_, _≤_, _<_, _^_}
 use mathlib.Core.Path.{_≡_, refl, sym, subst}
 use mathlib.Core.Bool.{true, false, not}
 use mathlib.Core.Logic.{⊎-elim}
 use mathlib.Core.List.{List}
 use native.Mathlib.Omega.{arith}
-use Rattle.matching.specs.Pairing.{none, scoreEnd, leftOut, at}
+use Rattle.laws.specs.Lists.{at}
+use Rattle.matching.specs.Pairing.{none, scoreEnd, leftOut}
 use lib.Dec.{T, ltb→lt, nltb→le}
 use lib.Signed.{ltZ}
 use lib.ListN.{length}

@@ -1,11 +1,12 @@
--- A cell after an offer. Assumes nothing.
+-- A cell after an offer.
 use Prim.Native.Nat.{ℕ, _+_, _≤_, _<_, _^_}
 use mathlib.Core.Path.{_≡_}
 use mathlib.Core.List.{List}
 use lib.ListN.{length}
 use mathlib.Core.Logic.{inl, inr, ⊎-elim}
 use native.Mathlib.Omega.{arith}
-use Rattle.matching.specs.Pairing.{leftOut, at}
+use Rattle.laws.specs.Lists.{at}
+use Rattle.matching.specs.Pairing.{leftOut}
 use Rattle.laws.proofs.Stores.{le-or-lt}
 use Rattle.passes.specs.Cells.{Step}
 

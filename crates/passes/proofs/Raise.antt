@@ -1,4 +1,4 @@
--- The prices, raised report by report: a report nearer than D is its owner's. Assumes nothing.
+-- The prices, raised report by report: a report nearer than D is its owner's.
 use Prim.Native.Nat.{ℕ, _+_, _-_, _≤_, _<_, _^_}
 use mathlib.Core.Path.{_≡_, refl, ap, sym, _∙_}
 use mathlib.Core.Logic.{_⊎_, inl, inr, ⊎-elim}
@@ -6,7 +6,7 @@ use mathlib.Core.List.{List}
 use native.Mathlib.Omega.{arith}
 use lib.ListN.{length, set, length-set}
 use lib.Seq.{getD-set-same, getD-set-other}
-use Rattle.matching.specs.Pairing.{at}
+use Rattle.laws.specs.Lists.{at}
 use Rattle.passes.specs.Cells.{Paid, Lifted}
 use Rattle.laws.proofs.Stores.{same-or}
 use Rattle.laws.proofs.Stores.{le-or-lt}

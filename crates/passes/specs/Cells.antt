@@ -1,10 +1,11 @@
--- What the engine's passes say of one cell and of whole lists. A label is how far a search has to go to reach a report. Assumes nothing.
+-- What the engine's passes say of one cell and of whole lists. A label is how far a search has to go to reach a report.
 use Prim.Native.Nat.{ℕ, _+_, _-_, _*_, _%_, _≤_, _<_, _^_}
 use mathlib.Core.Path.{_≡_}
 use mathlib.Core.List.{List}
 use mathlib.Core.Logic.{_⊎_}
 use lib.ListN.{length}
-use Rattle.matching.specs.Pairing.{none, scoreEnd, leftOut, at}
+use Rattle.laws.specs.Lists.{at}
+use Rattle.matching.specs.Pairing.{none, scoreEnd, leftOut}
 
 -- above every label, and above what an admissible pair adds to one
 abbrev pub far : ℕ

@@ -7,7 +7,8 @@ ghost use mathlib.Core.Path.{_≡_};
 ghost use Prim.Native.Nat.{ℕ, _+_, _-_, _*_, _<_, _≤_, _^_};
 ghost use lib.ListN.{length};
 ghost use mathlib.Core.Logic.{_⊎_};
-ghost use Rattle.matching.specs.Pairing.{at, none, leftOut};
+ghost use Rattle.laws.specs.Lists.{at};
+ghost use Rattle.matching.specs.Pairing.{none, leftOut};
 ghost use Rattle.passes.specs.Cells.{IsCell, far, mostColumns, key, Keyed, RowLeast, Fair, Relaxed, Labels, FromLabels, Low, Found, Nearest, Paid, Lifted, RowsUp, ColsUp};
 
 // Above every label, and above what an admissible pair adds to one.

@@ -1,4 +1,4 @@
--- One step of the search: report j is closed at its label, and its owner o offers. Assumes nothing.
+-- One step of the search: report j is closed at its label, and its owner o offers.
 use Prim.Native.Nat.{ℕ, zero, suc, _+_, _≤_, _<_}
 use mathlib.Core.Path.{_≡_, refl, ap}
 use mathlib.Core.List.{List, [], _∷_}
@@ -7,7 +7,8 @@ use native.Mathlib.Omega.{arith}
 use native.Mathlib.Nat.{not-suc-le-zero, le-of-suc-le-suc}
 use lib.ListN.{length, set, length-set}
 use lib.Seq.{getD-set-same, getD-set-other}
-use Rattle.matching.specs.Pairing.{leftOut, at}
+use Rattle.laws.specs.Lists.{at}
+use Rattle.matching.specs.Pairing.{leftOut}
 use Rattle.passes.specs.Cells.{far, Step}
 use Rattle.paths.specs.State.{cell, zeros, Prices, Own, Closed, Link, Tree}
 use Rattle.laws.proofs.Stores.{same-or}

@@ -1,4 +1,4 @@
--- The search's own steps: the tree planted, a report closed, and the two ends. Assumes nothing.
+-- The search's own steps: the tree planted, a report closed, and the two ends.
 use Prim.Native.Nat.{ℕ, _+_, _≤_, _<_}
 use mathlib.Core.Path.{_≡_, refl, ap}
 use mathlib.Core.List.{List}
@@ -6,7 +6,8 @@ use mathlib.Core.Logic.{_⊎_, inl, inr, ⊎-elim}
 use native.Mathlib.Omega.{arith}
 use lib.ListN.{length, set, length-set}
 use lib.Seq.{getD-set-same, getD-set-other}
-use Rattle.matching.specs.Pairing.{none, leftOut, at}
+use Rattle.laws.specs.Lists.{at}
+use Rattle.matching.specs.Pairing.{none, leftOut}
 use Rattle.passes.specs.Cells.{far, FromLabels, Nearest}
 use Rattle.paths.specs.State.{Own, Link, Tree, Scanned, Fit, Ready, Ended}
 use Rattle.laws.proofs.Stores.{le-or-lt}

@@ -1,4 +1,4 @@
--- The prices after a search: all stays fair, the pairs stay tight, and the chain is tight. Assumes nothing.
+-- The prices after a search: all stays fair, the pairs stay tight, and the chain is tight.
 use Prim.Native.Nat.{ℕ, _+_, _-_, _≤_, _<_}
 use mathlib.Core.Path.{_≡_, ap, sym, subst, _∙_}
 use mathlib.Core.List.{List}
@@ -6,7 +6,8 @@ use mathlib.Core.Logic.{inl, inr, ⊎-elim}
 use native.Mathlib.Omega.{arith}
 use lib.ListN.{length, set, length-set}
 use lib.Seq.{getD-set-same, getD-set-other}
-use Rattle.matching.specs.Pairing.{none, leftOut, at}
+use Rattle.laws.specs.Lists.{at}
+use Rattle.matching.specs.Pairing.{none, leftOut}
 use Rattle.passes.specs.Cells.{Paid, far, RowsUp, ColsUp}
 use Rattle.paths.specs.State.{cell, Shape, Prices, Own, Match, Closed, Link, Tight, Ready, Ended, Turn, Settled, Done, Inserted}
 use Rattle.laws.proofs.Stores.{le-or-lt}

@@ -1,4 +1,4 @@
--- A track's row of the sheet, as a part of the flat list, from report lo on. Assumes nothing.
+-- A track's row of the sheet, as a part of the flat list, from report lo on.
 use Prim.Native.Nat.{ℕ, _+_, _-_, _*_, _≤_, _<_}
 use mathlib.Core.Path.{_≡_, refl, ap, sym, subst, _∙_}
 use mathlib.Core.List.{List}
@@ -10,7 +10,7 @@ use lib.ListN.{length}
 use Rattle.laws.proofs.Sums.{row-in}
 use Rattle.laws.proofs.Parts.{part, part-length, part-at, put-before, put-in}
 use Rattle.laws.proofs.Stores.{le-or-lt}
-use Rattle.matching.specs.Pairing.{at}
+use Rattle.laws.specs.Lists.{at}
 use Rattle.passes.specs.Cells.{Step, Fair, Relaxed}
 use Rattle.paths.specs.State.{cell, Fit, Scanned}
 

@@ -1,4 +1,4 @@
--- A hole is filled: report h goes to track i, whose report is the next hole. Assumes nothing.
+-- A hole is filled: report h goes to track i, whose report is the next hole.
 use Prim.Native.Nat.{ℕ, _+_, _≤_, _<_}
 use mathlib.Core.Path.{_≡_, ap, sym, _∙_}
 use mathlib.Core.List.{List}
@@ -6,7 +6,8 @@ use mathlib.Core.Logic.{_⊎_, inl, inr, ⊎-elim}
 use native.Mathlib.Omega.{arith}
 use lib.ListN.{set, length-set, List·getD-eq-default}
 use lib.Seq.{getD-set-same, getD-set-other}
-use Rattle.matching.specs.Pairing.{none, at}
+use Rattle.laws.specs.Lists.{at}
+use Rattle.matching.specs.Pairing.{none}
 use Rattle.passes.specs.Cells.{far}
 use Rattle.paths.specs.State.{cell, Shape, Own, Match, Tight, Chain, Holed, Whole, Flips}
 use Rattle.laws.proofs.Stores.{same-or}

@@ -1,11 +1,12 @@
 -- The engine's state: fair prices, the pairing with at most one hole, and the tree of a search. n tracks, m reports, and the cells of their
--- sheet row by row. Assumes nothing.
+-- sheet row by row.
 use Prim.Native.Nat.{ℕ, zero, suc, _+_, _*_, _≤_, _<_}
 use mathlib.Core.Path.{_≡_}
 use mathlib.Core.List.{List, [], _∷_}
 use mathlib.Core.Logic.{_⊎_}
 use lib.ListN.{length}
-use Rattle.matching.specs.Pairing.{none, leftOut, mostTracks, at}
+use Rattle.laws.specs.Lists.{at}
+use Rattle.matching.specs.Pairing.{none, leftOut, mostTracks}
 use Rattle.passes.specs.Cells.{far, Step, IsCell}
 
 -- the engine itself takes this many reports, whatever the public call takes

@@ -12,7 +12,7 @@ use passes::raise_cols;
 use passes::raise_rows;
 use passes::relax;
 ghost use lib.ListN.{length};
-ghost use Rattle.matching.specs.Pairing.{at};
+ghost use Rattle.laws.specs.Lists.{at};
 ghost use Rattle.paths.specs.State.{Scanned, Fit, Ready, Ended, Flips, Flipped, Turn, Settled, Inserted};
 
 // How a search ended: at which label, and with a free report, or with a track that is left out.

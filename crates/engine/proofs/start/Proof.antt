@@ -1,4 +1,5 @@
-use Rattle.matching.specs.Pairing.{none, at}
+use Rattle.laws.specs.Lists.{at}
+use Rattle.matching.specs.Pairing.{none}
 use Rattle.engine.proofs.Begin.{good-len, good-at}
 use mathlib.Core.Path.{_∙_}
 use Rattle.paths.specs.State.{Good}

@@ -1,4 +1,4 @@
-use Rattle.matching.specs.Pairing.{at}
+use Rattle.laws.specs.Lists.{at}
 use borrow.Author.Count.{below-more}
 use lib.ListN.{length}
 use mathlib.Core.Path.{_≡_}

@@ -4,7 +4,7 @@ use mathlib.Core.Path.{_≡_}
 use borrow.Author.Count.{below-more}
 use native.Mathlib.Omega.{arith}
 use lib.ListN.{length}
-use Rattle.matching.specs.Pairing.{at}
+use Rattle.laws.specs.Lists.{at}
 use Rattle.passes.proofs.open_from.Statement.{statement}
 use Rattle.passes.proofs.open_from.Tie as tie
 

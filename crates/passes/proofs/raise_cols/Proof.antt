@@ -1,5 +1,5 @@
 use Rattle.laws.proofs.Stores.{upd, keep}
-use Rattle.matching.specs.Pairing.{at}
+use Rattle.laws.specs.Lists.{at}
 use borrow.Author.Count.{below-none}
 use lib.ListN.{length, length-set}
 use mathlib.Core.Path.{_≡_, refl}

@@ -3,7 +3,7 @@ use borrow.Author.Count.{below-none}
 use Prim.Native.Nat.{ℕ, _<_, _-_, _^_}
 use mathlib.Core.Path.{_≡_, refl}
 use lib.ListN.{length, length-set}
-use Rattle.matching.specs.Pairing.{at}
+use Rattle.laws.specs.Lists.{at}
 use Rattle.passes.specs.Cells.{Step}
 use Rattle.laws.proofs.Stores.{upd2, keep}
 use borrow.Author.Needs.{needs}

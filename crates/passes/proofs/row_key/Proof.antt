@@ -1,5 +1,5 @@
 use Rattle.laws.proofs.Stores.{le-or-lt}
-use Rattle.matching.specs.Pairing.{at}
+use Rattle.laws.specs.Lists.{at}
 use Rattle.passes.specs.Cells.{key}
 use borrow.Author.Count.{below-none, below-more}
 use borrow.Author.Needs.{needs}

@@ -1,5 +1,5 @@
 use Rattle.passes.proofs.Raise.{lifted-set, lifted-not}
-use Rattle.matching.specs.Pairing.{at}
+use Rattle.laws.specs.Lists.{at}
 use mathlib.Core.Path.{ap}
 use mathlib.Core.Logic.{⊎-elim}
 use native.Mathlib.Omega.{arith}

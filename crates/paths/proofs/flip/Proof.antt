@@ -1,4 +1,4 @@
-use Rattle.matching.specs.Pairing.{at}
+use Rattle.laws.specs.Lists.{at}
 use Rattle.paths.proofs.Swap.{holed, row-of, fall, flip-step}
 use mathlib.Core.Logic.{⊎-elim}
 use Rattle.paths.specs.State.{Flips}

@@ -3,7 +3,8 @@ use mathlib.Core.Path.{_≡_, ap, _∙_}
 use Prim.Native.Nat.{_+_, _-_}
 use lib.ListN.{length, length-set}
 use native.Mathlib.Omega.{arith}
-use Rattle.matching.specs.Pairing.{leftOut, at}
+use Rattle.laws.specs.Lists.{at}
+use Rattle.matching.specs.Pairing.{leftOut}
 use Rattle.passes.specs.Cells.{far, Nearest}
 use Rattle.paths.specs.State.{Tree, zeros}
 use Rattle.paths.proofs.Advance.{zeros-set}
