@@ -178,8 +178,10 @@ fn pairings() {
         b"scores 10 20, 12 none; total 32; prices 20 22; discounts 10 0: check = ",
         matching::check_pairing(2, 2, &sheet, &crossed, &prices, &discounts) as u64,
     );
-    let left_out = [matching::NONE];
-    let price = [matching::LEFT_OUT];
+    let mut left_out = [0];
+    let mut price = [0];
+    let mut no_discounts = [];
+    engine::pair_sheet(1, 0, &[], &mut left_out, &mut price, &mut no_discounts);
     line(b"one track, no report: price = ", price[0] as u64);
     line(
         b"one track, no report: check = ",

@@ -28,14 +28,6 @@ module _ (S : Sheet) (P Q : ℕ → ℕ) (a : Alike (S .tracks) P Q) where
   unfolding scoreSum
   scores-same = sum-same (S .tracks) _ _ (λ i l. ap (λ x. cond (eqb x none) 0 (S .cell i x)) (a i l))
 
-  pub best-same : Best S P → Best S Q
-  best-same b =
-      record {
-        valid = valid-same (b .valid);
-        most = λ R r l. b .most R r (rw pairs-same l);
-        least = λ R r e l. b .least R r (e ∙ sym pairs-same) (rw scores-same l);
-      }
-
 -- P 0, P 1, .. as a list
 list-at : (n : ℕ) (P : ℕ → ℕ) → Alike n P (at (listed n P))
 list-at n P i l = sym (listed-at n P i 0 l)

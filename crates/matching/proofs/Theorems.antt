@@ -80,10 +80,6 @@ all-are-served S P Q b q all =
 pub no-report-unused : (S : Sheet) (P : ℕ → ℕ) → Best S P → S .reports ≤ none → (i j : ℕ) → i < S .tracks → P i ≡ none → j < S .reports → Admissible S i j → (k : ℕ) × ((k < S .tracks) × (P k ≡ j))
 no-report-unused = unused.no-unused
 
--- A pairing is what it says of the tracks that are there.
-pub best-alike : (S : Sheet) (P Q : ℕ → ℕ) → Alike (S .tracks) P Q → Best S P → Best S Q
-best-alike = same.best-same
-
 -- Best over lists of report numbers, and best over functions, say the same.
 pub list-is-best : (S : Sheet) (p : List ℕ) → BestList S p → Best S (at p)
 list-is-best = same.list-best
@@ -188,11 +184,6 @@ zero-says n m s p u v e =
 -- there have the same answer.
 pub beyond-is-not-read : (n m : ℕ) (s s′ p p′ u u′ v v′ : List ℕ) → Fits n m s p u v → Fits n m s′ p′ u′ v′ → Alike (n * m) (at s) (at s′) → Alike n (at p) (at p′) → Alike n (at u) (at u′) → Alike m (at v) (at v′) → checkAnswer n m s p u v ≡ checkAnswer n m s′ p′ u′ v′
 beyond-is-not-read = beyond.answer-same
-
--- So a certificate in lists is one in all lists that are the same up to there.
-pub certificate-alike : (n m : ℕ) (s s′ p p′ u u′ v v′ : List ℕ) → Fits n m s p u v → Fits n m s′ p′ u′ v′ → Alike (n * m) (at s) (at s′) → Alike n (at p) (at p′) → Alike n (at u) (at u′) → Alike m (at v) (at v′) → Certificate (sheetOf n m s) (at p) (at u) (at v) → Certificate (sheetOf n m s′) (at p′) (at u′) (at v′)
-certificate-alike n m s s′ p p′ u u′ v v′ z z′ cs ps us vs c =
-    zero-certificate n m s′ p′ u′ v′ (sym (beyond-is-not-read n m s s′ p p′ u u′ v v′ z z′ cs ps us vs) ∙ certificate-zero n m s p u v z c) .1
 
 -- ---- the order of the answers
 

@@ -65,7 +65,8 @@ fn stray(cell: u32) -> u32
     1
 }
 
-// How many of the first k cells are. A sum with no way out of the loop goes by vectors.
+// How many of the first k cells are out of range. A sum with no way out of its loop is what the compiler turns into vector
+// instructions. The bound of a million cells is only so that the count fits; 01's sheets have 10,000.
 fn strays(sheet: &[u32], k: usize) -> u32
     requires { ⌜ (k ≤ length (now sheet)) × (k ≤ 1000000) ⌝ }
     ensures { λ r. ⌜ r ≡ Sum k (λ i. cond (cellOk (at (now (sheet .entry)) i)) 0 1) ⌝ }
@@ -126,7 +127,8 @@ fn fresh(pairing: &[u32], i: usize, x: u32) -> bool
     true
 }
 
-// Track i is left out, or its report is there, the pair is admissible, and no track before i has the report.
+// Track i is left out, or its report is there, the pair is admissible, and no track before i has the report. How many tracks the
+// sheet has does not matter to one of them, hence `sheetOf 0`.
 fn entry_ok(reports: usize, sheet: &[u32], pairing: &[u32], i: usize) -> bool
     requires { ⌜ (i < length (now pairing)) × (i * reports + reports ≤ length (now sheet)) ⌝ }
     ensures { λ r. ⌜ r ≡ entryOk (sheetOf 0 reports (now (sheet .entry))) (at (now (pairing .entry))) i ⌝ }
@@ -175,7 +177,7 @@ fn numbers_ok(n: usize, numbers: &[u32]) -> bool
     true
 }
 
-// All prices and all discounts are.
+// All prices and all discounts are in range.
 fn all_numbers_ok(tracks: usize, reports: usize, prices: &[u32], discounts: &[u32]) -> bool
     requires { ⌜ (tracks ≤ length (now prices)) × (reports ≤ length (now discounts)) ⌝ }
     ensures { λ r. ⌜ r ≡ (numbersOk tracks (at (now (prices .entry))) && numbersOk reports (at (now (discounts .entry)))) ⌝ }
@@ -232,7 +234,7 @@ fn scores_ok(
     true
 }
 
-// The first n prices, or discounts, together.
+// The first n prices, or discounts, together. The bound of a thousand is only so that 64 bits hold the sum; 01 has 100.
 fn sum_of(n: usize, numbers: &[u32]) -> u64
     requires { ⌜ (n ≤ 1000) × (n ≤ length (now numbers)) ⌝ }
     ensures { λ r. ⌜ (r ≡ Sum n (at (now (numbers .entry)))) × (r ≤ n * 4294967296) ⌝ }

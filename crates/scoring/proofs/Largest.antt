@@ -3,7 +3,7 @@ use Prim.Native.Nat.{ℕ, zero, suc, _+_, _*_, _/_, _^_, _≤_, _<_}
 use mathlib.Core.Path.{_≡_, refl, _∙_}
 use mathlib.Core.Bool.{Bool, true, false, cond}
 use mathlib.Core.Logic.{⊎-elim, _↔_}
-use native.Mathlib.Nat.{le-refl, le-step, le-antisymm, eq-or-lt-of-le, le-of-suc-le-suc, not-suc-le-zero, pow-zero, pow-succ'}
+use native.Mathlib.Nat.{le-refl, le-step, eq-or-lt-of-le, le-of-suc-le-suc, not-suc-le-zero, pow-zero, pow-succ'}
 use native.Mathlib.Decide.{decLt}
 use native.Mathlib.Omega.{arith}
 use Rattle.laws.proofs.Tests.{clash}
@@ -51,18 +51,6 @@ module _ (p : ℕ → Bool) where
       go : Dec (largest p n < s) → largest p n < s
       go (yes k) = k
       go (no k) = absurd (clash (d .below s (largest p n) h (omega arith) (largest-most n) (largest-holds n (omega arith))) e)
-
-  -- the test holds of s, or s is 0; it fails of the next, or s is n: s is the largest
-  pub largest-is : (n s : ℕ) → Downward p n → s ≤ n → (0 < s → p s ≡ true) → (s < n → p (suc s) ≡ false) → largest p n ≡ s
-  largest-is n s d l holds fails = le-antisymm (above (decLt s n)) (below (decLt 0 s))
-    where
-      above : Dec (s < n) → largest p n ≤ s
-      above (yes k) = le-of-suc-le-suc (largest-missed n (suc s) d (omega arith) (fails k))
-      above (no k) = omega (arith, largest-most n)
-
-      below : Dec (0 < s) → s ≤ largest p n
-      below (yes k) = largest-reached n s l (holds k)
-      below (no k) = omega arith
 
   -- it is 0 where the test fails of 1
   pub largest-zero : (n : ℕ) → Downward p n → 0 < n → (largest p n ≡ 0) ↔ (p 1 ≡ false)

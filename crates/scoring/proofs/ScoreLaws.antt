@@ -1,40 +1,18 @@
 -- Laws of the zone, of each digit, and of the score.
 use Prim.Native.Nat.{ℕ, _+_, _*_, _≤_, _<_, _^_}
 use mathlib.Core.Path.{_≡_, refl}
-use mathlib.Core.Bool.{Bool, true, false, not, cond}
-use mathlib.Core.List.{List}
+use mathlib.Core.Bool.{Bool, true, false, cond}
 use native.Mathlib.Omega.{arith}
-use borrow.Author.Tests.{leb-true, ltb-true, not-false}
 use lib.Dec.{ltb, eqb}
-use lib.IntN.{natAbs}
-use lib.ListN.{getD}
-use Rattle.laws.specs.Lists.{firstIndex}
-use Rattle.laws.proofs.Search.{first-before}
-use Rattle.numbers.specs.Scales.{rangeMost, rangeSpeedMost}
 use Rattle.records.specs.declared.Track.{Track}
 use Rattle.records.specs.declared.Report.{Report}
 use Rattle.records.specs.declared.Site.{Site}
-use Rattle.records.specs.Fields.{trackFields, trackRules, badTrackField, reportFields, reportRules, badReportField, highCircle, lowCircle}
 use Rattle.records.specs.Fields.{growingFrom, matureFrom, sureConfidence, sureQuality}
 use Rattle.scoring.specs.declared.Scored.the-variants.{NotAdmissible, Score}
 use Rattle.scoring.specs.Zone.{rangeOff, azimuthOff, withinSigmas, innerSigmas, withinOuter, zoneOf}
-use Rattle.scoring.specs.Score.{Scorable, pairPosition, oneUnless, dopplerAgrees, dopplerOf, updatesAge, ageOf, confidenceTrust, qualityTrust, trustOf}
+use Rattle.scoring.specs.Score.{pairPosition, oneUnless, dopplerAgrees, dopplerOf, updatesAge, ageOf, confidenceTrust, qualityTrust, trustOf}
 use Rattle.scoring.specs.Score.{worthOf, scoreOf}
 use Rattle.scoring.proofs.PositionLaws.{position-most}
-
--- a track and a report without a bad field can be scored
-pub legal-scorable : (t : Track) (s : ℕ) (p : Report) → badTrackField t s ≡ trackFields → badReportField p ≡ reportFields → Scorable t p
-unfolding badTrackField trackRules badReportField reportRules
-legal-scorable t s p et ep = record {
-  predicted = leb-true (t .range) rangeMost (kept (trackRules t s) 1 (omega arith));
-  reported = leb-true (p .range) rangeMost (kept (reportRules p) 0 (omega arith));
-  speed = leb-true (natAbs (t .«range_speed» .v)) rangeSpeedMost (kept (trackRules t s) 3 (omega arith));
-  high = ltb-true (p .high) highCircle (kept (reportRules p) 5 (omega arith));
-  low = ltb-true (p .low) lowCircle (kept (reportRules p) 6 (omega arith));
-}
-  where
-    kept : (rules : List Bool) (k : ℕ) → k < firstIndex not rules → getD rules k true ≡ true
-    kept rules k h = not-false (getD rules k true) (first-before not rules true k h)
 
 -- a pair in the inner zone is inner, even where a track of one update does not reach so far
 pub inner-first : (t : Track) (p : Report) (g : Site) → withinSigmas innerSigmas t p g ≡ true → zoneOf t p g ≡ 3

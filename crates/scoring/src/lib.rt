@@ -60,7 +60,7 @@ fn by_sigma(x: u64, sigma: u8) -> u64
     x * (sigma as u64)
 }
 
-// Range first: most pairs of a sector fail there.
+// Range first: it is the cheaper of the two.
 fn within_sigmas(n: u32, t: Track, p: Report, g: Site) -> bool
     ensures { λ r. ⌜ r ≡ withinSigmas n t p g ⌝ }
 {

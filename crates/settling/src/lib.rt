@@ -82,7 +82,7 @@ pub fn gain_b(t: Track, p: Report) -> u32
     gain(t, p, DEGRADED_B, listed(GAINS_B, p))
 }
 
-// d times a gain, and how large that gets.
+// d times a gain, and how large that gets. An azimuth's d is smaller than a range's, so one bound serves both.
 fn weighted(d: Int, gain: u32) -> Int
     requires { ⌜ (natAbs (d .v) ≤ rangeMost) × (gain ≤ tenths) ⌝ }
     ensures { λ r. ⌜ (r .v ≡ d .v *ℤ pos gain) × (natAbs (r .v) ≤ rangeMost * tenths) ⌝ }
