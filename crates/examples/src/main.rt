@@ -168,6 +168,10 @@ fn corrections() {
     );
 }
 
+fn price_line(name: &[u8], price: u32) {
+    line(name, price as u64);
+}
+
 // The check answers 0 where it passes, which asks that the total is all prices less all discounts.
 fn pairings() {
     let sheet = [10, 20, 12, matching::NONE];
@@ -182,7 +186,7 @@ fn pairings() {
     let mut price = [0];
     let mut no_discounts = [];
     engine::pair_sheet(1, 0, &[], &mut left_out, &mut price, &mut no_discounts);
-    line(b"one track, no report: price = ", price[0] as u64);
+    price_line(b"one track, no report: price = ", price[0]);
     line(
         b"one track, no report: check = ",
         matching::check_pairing(1, 0, &[], &left_out, &price, &[]) as u64,
