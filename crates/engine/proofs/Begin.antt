@@ -10,13 +10,11 @@ use Rattle.laws.specs.Lists.{at}
 use Rattle.matching.specs.Pairing.{none, leftOut}
 use Rattle.passes.specs.Cells.{far, IsCell, mostColumns}
 use Rattle.paths.specs.State.{cell, Shape, Own, Match, Good, Done, Ready, Inserted}
-use Rattle.engine.specs.State.{Fresh, Claimed, Visit}
+use Rattle.engine.specs.State.{Fresh, Contest, Claimed, Visit}
+use Rattle.queue.proofs.Rise.{good-len}
 use Rattle.laws.proofs.Stores.{same-or}
-use Rattle.paths.proofs.Swap.{refit, shape'}
+use Rattle.paths.proofs.Swap.{refit, shape', stays, vacated, shape1}
 use Rattle.paths.proofs.Rows.{row, row-length, row-at, row-end}
-
-pub good-len : (cells : List ℕ) (m n : ℕ) (pairing owner prices discounts : List ℕ) → Good cells m n pairing owner prices discounts → Good cells m (length prices) pairing owner prices discounts
-good-len cells m n pairing owner prices discounts G = rw (G .shape .lu) G
 
 module _ (cells : List ℕ) (m n track : ℕ) (pairing owner prices discounts : List ℕ) (G : Good cells m n pairing owner prices discounts) (rr : track < n) (rp : at pairing track ≡ none)
     (v : ℕ) (vM : v ≤ leftOut) (vc : (j : ℕ) → j < m → v ≤ cell cells m track j) where
@@ -105,18 +103,80 @@ module _ (cells : List ℕ) (m track : ℕ) (pairing owner prices discounts : Li
   pub claimed-price : Claimed cells m n track pairing pairing owner (set prices x v) discounts
   claimed-price = record {
     good = rw ex (priced cells m n track pairing owner prices discounts (F .good) (F .rr) (F .rp) v vM vr);
-    others = λ i d. refl;
+    others = λ i d z. z;
   }
 
   pub claimed-pair : (j : ℕ) → j < m → v < leftOut → at (row cells m x) j ≡ v → at owner j ≡ none
       → Claimed cells m n track pairing (set pairing x j) (set owner j track) (set prices x v) discounts
   claimed-pair j h l e f = record {
     good = rw ex (given cells m n track pairing owner prices discounts (F .good) (F .rr) (F .rp) v vM vr j h f l (sym (pat j h) ∙ e));
-    others = λ i d. getD-set-other pairing x i j 0 (λ q. d (q ∙ ex));
+    others = λ i d z. getD-set-other pairing x i j 0 (λ q. d (q ∙ ex)) ∙ z;
   }
+
+  len1 : length (set prices x v) ≡ n
+  len1 = simp length-set refl
+
+  -- where no report of that score is free
+  pub contested : (h : ℕ) → v < leftOut → (h < length (row cells m x)) × (at (row cells m x) h ≡ v) → Contest cells m track h pairing owner (set prices x v) discounts
+  contested h l e =
+      let g : h < m = omega (arith, e .0, plen) in
+      let q : cell cells m track h ≡ v = sym (pat h g) ∙ e .1 in
+      record {
+        good = good-len cells m n pairing owner (set prices x v) discounts (rw ex (priced cells m n track pairing owner prices discounts (F .good) (F .rr) (F .rp) v vM vr));
+        rr = omega (arith, len1, F .rr);
+        rp = F .rp;
+        hm = g;
+        adm = omega arith;
+        tight = omega (arith, ap (at (set prices x v)) (sym ex), getD-set-same prices x v 0 (omega (arith, F .rr)), F .zero h g);
+      }
+
+  pub claimed-len : (pairing' owner' : List ℕ) → Claimed cells m (length (set prices x v)) track pairing pairing' owner' (set prices x v) discounts
+      → Claimed cells m n track pairing pairing' owner' (set prices x v) discounts
+  claimed-len pairing' owner' K = subst (λ (k : ℕ). Claimed cells m k track pairing pairing' owner' (set prices x v) discounts) len1 K
 
   pub claim-len : (length owner ≡ length (row cells m x)) × (m ≡ length (row cells m x))
   claim-len = (F .good .shape .lo ∙ sym plen, sym plen)
+
+-- a report goes from its owner to a track without one
+module _ (cells : List ℕ) (m track h : ℕ) (pairing owner prices discounts : List ℕ) (C : Contest cells m track h pairing owner prices discounts) where
+  pub lost : Claimed cells m (length prices) track pairing pairing owner prices discounts
+  lost = record { good = C .good; others = λ i d z. z }
+
+  module _ (on : at owner h < length prices) where
+    abbrev o : ℕ
+    o = at owner h
+
+    abbrev pairing1 : List ℕ
+    pairing1 = set pairing o none
+
+    own : Own cells m (length prices) pairing prices discounts h o
+    own = ⊎-elim (λ z. absurd (omega (arith, z .0, C .good .shape .nn))) (λ y. y) (C .good .M .owned h (C .hm) (λ e. omega (arith, C .hm, C .good .shape .mm)))
+
+    om : at pairing o < m
+    om = omega (arith, own .back, C .hm)
+
+    hole1 : Match cells m (length prices) pairing1 owner prices discounts h
+    hole1 = (rw (own .back) at (vacated cells m (length prices) prices discounts pairing owner (C .good .shape) (C .good .M) o on om))
+
+    shape-1 : Shape cells m (length prices) pairing1 owner prices discounts
+    shape-1 = shape1 cells m (length prices) prices discounts pairing owner (C .good .shape) (C .good .M) o on om
+
+    left : (i : ℕ) → at pairing i ≡ none → at pairing1 i ≡ none
+    left i z = stays cells m (length prices) prices discounts pairing owner (C .good .shape) (C .good .M) o on om i (λ q. omega (arith, ap (at pairing) q, om, C .good .shape .mm)) ∙ z
+
+    won : Claimed cells m (length prices) track pairing (set pairing1 track h) (set owner h track) prices discounts
+    won = record {
+      good = record {
+        shape = shape' cells m (length prices) prices discounts pairing1 owner shape-1 h (C .hm) hole1 track (C .rr) (C .adm) (C .tight);
+        P = C .good .P;
+        M = (rw (left track (C .rp)) at (refit cells m (length prices) prices discounts pairing1 owner shape-1 h (C .hm) hole1 track (C .rr) (C .adm) (C .tight)));
+      };
+      others = λ i d z. getD-set-other pairing1 track i h 0 d ∙ left i z;
+    }
+
+  pub ousted : (x j y : ℕ) → x ≡ track → j ≡ h → y ≡ at owner j → y < length prices
+      → Claimed cells m (length prices) track pairing (set (set pairing y none) x h) (set owner j track) prices discounts
+  ousted x j y ex ej ey l = rw (ey, ej, ex) (won (rw (ey, ej) at l))
 
 -- a visit where nothing is to do, and where the track is to be inserted
 module _ (cells : List ℕ) (m track : ℕ) (pairing owner prices discounts dist par shut : List ℕ) (Vs : Visit cells m track pairing owner prices discounts dist par shut) (x : ℕ) (ex : x ≡ track) where
@@ -150,7 +210,3 @@ blank cells m n pairing owner prices discounts S p o v z = record {
   P = record { feas = λ i j h g a. omega (arith, v i h); um = λ i h. omega (arith, v i h); wm = λ j h. omega (arith, z j h) };
   M = record { owned = λ j h d. inl (o j h, z j h); paired = λ i h. inl (p i h) };
 }
-
--- Good with another name for the number of tracks
-pub good-at : (cells : List ℕ) (m n k : ℕ) (pairing owner prices discounts : List ℕ) → k ≡ n → Good cells m k pairing owner prices discounts → Good cells m n pairing owner prices discounts
-good-at cells m n k pairing owner prices discounts e G = subst (λ (x : ℕ). Good cells m x pairing owner prices discounts) e G

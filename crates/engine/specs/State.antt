@@ -1,28 +1,38 @@
 -- The engine's stages: what the start, a visit and the whole ask and give.
-use Prim.Native.Nat.{ℕ, _*_, _≤_, _<_}
+use Prim.Native.Nat.{ℕ, _+_, _*_, _≤_, _<_}
 use mathlib.Core.Path.{_≡_}
 use mathlib.Core.List.{List}
 use lib.ListN.{length}
 use Rattle.laws.specs.Lists.{at}
 use Rattle.matching.specs.Pairing.{none, mostTracks, Certificate, sheetOf}
-use Rattle.passes.specs.Cells.{IsCell}
+use Rattle.passes.specs.Cells.{far, IsCell}
 use Rattle.paths.specs.State.{widest, cell, Shape, Good, Done}
+use Rattle.queue.specs.State.{Rooms}
 
 -- a track that is in no pair, at the start
 pub record Fresh (cells : List ℕ) (m track : ℕ) (pairing owner prices discounts : List ℕ) : Type 0 where
   pub good : Good cells m (length prices) pairing owner prices discounts
   pub rr : track < length prices
   pub rp : at pairing track ≡ none
+  pub zero : (j : ℕ) → j < m → at discounts j ≡ 0
+
+-- a track that is in no pair, and a report of its price
+pub record Contest (cells : List ℕ) (m track h : ℕ) (pairing owner prices discounts : List ℕ) : Type 0 where
+  pub good : Good cells m (length prices) pairing owner prices discounts
+  pub rr : track < length prices
+  pub rp : at pairing track ≡ none
+  pub hm : h < m
+  pub adm : cell cells m track h < far
+  pub tight : at prices track ≡ cell cells m track h + at discounts h
 
 pub record Claimed (cells : List ℕ) (m n track : ℕ) (pairing pairing' owner' prices' discounts : List ℕ) : Type 0 where
   pub good : Good cells m n pairing' owner' prices' discounts
-  pub others : (i : ℕ) → (i ≡ track → ⊥) → at pairing' i ≡ at pairing i
+  pub others : (i : ℕ) → (i ≡ track → ⊥) → at pairing i ≡ none → at pairing' i ≡ none
 
-pub record Room (cells : List ℕ) (m n : ℕ) (pairing owner prices discounts dist par shut : List ℕ) : Type 0 where
+pub record Room (cells : List ℕ) (m n : ℕ) (pairing owner prices discounts dist par shut slack : List ℕ) : Type 0 where
   pub shape : Shape cells m n pairing owner prices discounts
-  pub ld : length dist ≡ m
-  pub lpar : length par ≡ m
-  pub ls : length shut ≡ m
+  pub rooms : Rooms m dist par shut
+  pub lk : length slack ≡ m
 
 pub record Visit (cells : List ℕ) (m track : ℕ) (pairing owner prices discounts dist par shut : List ℕ) : Type 0 where
   pub good : Good cells m (length prices) pairing owner prices discounts

@@ -1,5 +1,6 @@
 // The pairing of any sheet, with the prices and discounts that show it best. Each track takes the report of its least score if it is
-// free; then each track without one is inserted by one search, after which prices rise once and the pairing changes along one chain.
+// free or a less exacting track's; then each track without one is inserted by one search, after which prices rise once and the pairing
+// changes along one chain.
 use matching::LEFT_OUT;
 use matching::NONE;
 use passes::fill;
@@ -7,6 +8,7 @@ use passes::idx;
 use passes::row_best;
 use passes::seat;
 use paths::insert;
+use queue::take_turns;
 ghost use mathlib.Core.Path.{_≡_};
 ghost use Prim.Native.Nat.{ℕ, _<_};
 ghost use lib.ListN.{length};
@@ -14,7 +16,7 @@ ghost use Rattle.laws.specs.Lists.{at};
 ghost use Rattle.matching.specs.Pairing.{none};
 ghost use Rattle.engine.specs.Call.{PairsSheet};
 ghost use Rattle.paths.specs.State.{Shape, Good, Inserted};
-ghost use Rattle.engine.specs.State.{Fresh, Claimed, Room, Visit, Solved, Tested, Certified};
+ghost use Rattle.engine.specs.State.{Fresh, Contest, Claimed, Room, Visit, Solved, Tested, Certified};
 
 // The engine itself takes this many reports, whatever the public call takes.
 const WIDEST: usize = 200;
@@ -25,7 +27,35 @@ pub enum Paired {
     Done,
 }
 
-// A track's price is its least score, and a free report of that score is its.
+// Report h has the track's least score, and goes to it from a track of lower price.
+fn oust(
+    sheet: &[u32],
+    reports: usize,
+    track: u32,
+    h: u32,
+    pairing: &mut [u32],
+    owner: &mut [u32],
+    prices: &[u32],
+    discounts: &[u32],
+)
+    requires { ⌜ Contest (now sheet) reports track h (now pairing) (now owner) (now prices) (now discounts) ⌝ }
+    ensures { λ _. ⌜ Claimed (now (sheet .entry)) reports (length (now (prices .entry))) track (now (pairing .entry)) (now (pairing .exit)) (now (owner .exit)) (now (prices .entry)) (now (discounts .entry)) ⌝ }
+{
+    let x = idx(track);
+    let j = idx(h);
+    let y = idx(owner[j]);
+    if y >= prices.len() {
+        return;
+    }
+    if prices[y] >= prices[x] {
+        return;
+    }
+    pairing[y] = NONE;
+    pairing[x] = h;
+    owner[j] = track;
+}
+
+// A track's price is its least score. A free report of that score is its, or one of a less exacting track.
 fn claim(
     sheet: &[u32],
     reports: usize,
@@ -51,6 +81,7 @@ fn claim(
     }
     let j = seat(c, owner, v, h);
     if j >= reports {
+        oust(sheet, reports, track, h, pairing, owner, prices, discounts);
         return;
     }
     pairing[x] = j as u32;
@@ -65,7 +96,7 @@ fn start(
     prices: &mut [u32],
     discounts: &[u32],
 )
-    requires { ⌜ Good (now sheet) reports (length (now prices)) (now pairing) (now owner) (now prices) (now discounts) × ((i : ℕ) → i < length (now prices) → at (now pairing) i ≡ none) ⌝ }
+    requires { ⌜ Good (now sheet) reports (length (now prices)) (now pairing) (now owner) (now prices) (now discounts) × (((i : ℕ) → i < length (now prices) → at (now pairing) i ≡ none) × ((j : ℕ) → j < reports → at (now discounts) j ≡ 0)) ⌝ }
     ensures { λ _. ⌜ Good (now (sheet .entry)) reports (length (now (prices .entry))) (now (pairing .exit)) (now (owner .exit)) (now (prices .exit)) (now (discounts .entry)) ⌝ }
 {
     let mut track: usize = 0;
@@ -132,12 +163,44 @@ fn clear(
     discounts: &mut [u32],
 )
     requires { ⌜ Shape (now sheet) reports (length (now prices)) (now pairing) (now owner) (now prices) (now discounts) ⌝ }
-    ensures { λ _. ⌜ Good (now (sheet .entry)) reports (length (now (prices .entry))) (now (pairing .exit)) (now (owner .exit)) (now (prices .exit)) (now (discounts .exit)) × ((i : ℕ) → i < length (now (prices .entry)) → at (now (pairing .exit)) i ≡ none) ⌝ }
+    ensures { λ _. ⌜ Good (now (sheet .entry)) reports (length (now (prices .entry))) (now (pairing .exit)) (now (owner .exit)) (now (prices .exit)) (now (discounts .exit)) × (((i : ℕ) → i < length (now (prices .entry)) → at (now (pairing .exit)) i ≡ none) × ((j : ℕ) → j < reports → at (now (discounts .exit)) j ≡ 0)) ⌝ }
 {
     fill(pairing, NONE);
     fill(owner, NONE);
     fill(prices, 0);
     fill(discounts, 0);
+}
+
+// The claims and the turns.
+fn match_all(
+    sheet: &[u32],
+    reports: usize,
+    pairing: &mut [u32],
+    owner: &mut [u32],
+    prices: &mut [u32],
+    discounts: &mut [u32],
+    dist: &mut [u32],
+    par: &mut [u32],
+    shut: &mut [u32],
+    slack: &mut [u32],
+)
+    requires { ⌜ Room (now sheet) reports (length (now prices)) (now pairing) (now owner) (now prices) (now discounts) (now dist) (now par) (now shut) (now slack) ⌝ }
+    ensures { λ _. ⌜ Good (now (sheet .entry)) reports (length (now (prices .entry))) (now (pairing .exit)) (now (owner .exit)) (now (prices .exit)) (now (discounts .exit)) ⌝ }
+{
+    clear(sheet, reports, pairing, owner, prices, discounts);
+    start(sheet, reports, pairing, owner, prices, discounts);
+    take_turns(
+        sheet,
+        reports,
+        pairing,
+        owner,
+        prices,
+        discounts,
+        dist,
+        par,
+        shut,
+        slack,
+    );
 }
 
 fn assign(
@@ -150,12 +213,24 @@ fn assign(
     dist: &mut [u32],
     par: &mut [u32],
     shut: &mut [u32],
+    slack: &mut [u32],
 )
-    requires { ⌜ Room (now sheet) reports (length (now prices)) (now pairing) (now owner) (now prices) (now discounts) (now dist) (now par) (now shut) ⌝ }
+    requires { ⌜ Room (now sheet) reports (length (now prices)) (now pairing) (now owner) (now prices) (now discounts) (now dist) (now par) (now shut) (now slack) ⌝ }
     ensures { λ _. ⌜ Solved (now (sheet .entry)) reports (length (now (prices .entry))) (now (pairing .exit)) (now (owner .exit)) (now (prices .exit)) (now (discounts .exit)) ⌝ }
 {
-    clear(sheet, reports, pairing, owner, prices, discounts);
-    start(sheet, reports, pairing, owner, prices, discounts);
+    match_all(
+        sheet,
+        reports,
+        pairing,
+        owner,
+        prices,
+        discounts,
+        dist,
+        par,
+        shut,
+        slack,
+    );
+    // No track waits by now: this walk shows it.
     let mut track: usize = 0;
     while track < prices.len() {
         visit(
@@ -189,6 +264,7 @@ pub fn pair_cells(
     let mut dist = [0u32; WIDEST];
     let mut par = [0u32; WIDEST];
     let mut shut = [0u32; WIDEST];
+    let mut slack = [0u32; WIDEST];
     assign(
         sheet,
         reports,
@@ -199,6 +275,7 @@ pub fn pair_cells(
         &mut dist[..reports],
         &mut par[..reports],
         &mut shut[..reports],
+        &mut slack[..reports],
     );
 }
 

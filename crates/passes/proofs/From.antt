@@ -32,6 +32,7 @@ module _ (lo : ℕ) (dist shut : List ℕ) (cap : ℕ) (F : FromLabels lo dist s
   from-labels = (
     record {
       same = lS ∙ sym lD;
+      few = omega (arith, lD, F .labels .few);
       small = λ k h. omega (arith, lD, both k (omega (arith, lD)), F .labels .small (lo + k) (omega (arith, lD)));
     },
     F .capped,

@@ -13,7 +13,8 @@ use lib.ListN.{length}
 use mir.Syntax.{w32}
 use mir.Val.{toZ}
 use mir.Facts.{toZ-pos}
-use Rattle.passes.specs.Cells.{IsCell, key, Keyed, RowLeast}
+use Rattle.laws.proofs.Stores.{le-or-lt}
+use Rattle.passes.specs.Cells.{IsCell, key, Keyed, RowLeast, near}
 
 module _ (a b : ℕ) (ha : a < 2 ^ 31) (hb : b < 2 ^ 31) where
   pub less-yes : ltZ (toZ w32 a) (toZ w32 b) ≡ true → a < b
@@ -57,3 +58,22 @@ module _ (c : List ℕ) (small : length c ≤ 256) (cs : (k : ℕ) → k < lengt
     below = λ k g. omega (arith, K .low k g, key-is (at c k) k);
     met = λ g. ⊎-elim (λ e. absurd (omega arith)) (λ s. here h (s .0) (s .1 .0) (s .1 .1)) (K .met);
   }
+
+-- ---- labels and columns in one number
+
+pub near-low : (r b x : ℕ) → r ≤ b → b / 256 ≤ x → r / 256 ≤ x
+near-low r b x h g = omega arith
+
+pub near-here : (r b x j : ℕ) → r ≤ b → j < 256 → (x < near → b ≡ x * 256 + j) → (near ≤ x → b ≡ near * 256 + j) → r / 256 ≤ x
+near-here r b x j h s n f = ⊎-elim (λ l. omega (arith, f l)) (λ l. omega (arith, n l)) (le-or-lt near x)
+
+pub near-met : (dist shut : List ℕ) (j r : ℕ) → j < 256 → j < length dist
+    → (at dist j + at shut j < near → r ≡ (at dist j + at shut j) * 256 + j) → (near ≤ at dist j + at shut j → r ≡ near * 256 + j)
+    → r / 256 < near → (r % 256 < length dist) × (at dist (r % 256) + at shut (r % 256) ≡ r / 256)
+near-met dist shut j r s h n f g = ⊎-elim
+    (λ (l : near ≤ at dist j + at shut j). absurd (omega (arith, f l)))
+    (λ (l : at dist j + at shut j < near).
+    let d : r / 256 ≡ at dist j + at shut j = high r (at dist j + at shut j) j (n l) s in
+    let q : r % 256 ≡ j = omega (arith, n l) in
+    rw q (h, sym d))
+    (le-or-lt near (at dist j + at shut j))

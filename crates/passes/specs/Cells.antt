@@ -1,5 +1,5 @@
 -- What the engine's passes say of one cell and of whole lists. A label is how far a search has to go to reach a report.
-use Prim.Native.Nat.{ℕ, _+_, _-_, _*_, _%_, _≤_, _<_, _^_}
+use Prim.Native.Nat.{ℕ, _+_, _-_, _*_, _/_, _%_, _≤_, _<_, _^_}
 use mathlib.Core.Path.{_≡_}
 use mathlib.Core.List.{List}
 use mathlib.Core.Logic.{_⊎_}
@@ -10,6 +10,10 @@ use Rattle.matching.specs.Pairing.{none, scoreEnd, leftOut}
 -- above every label, and above what an admissible pair adds to one
 abbrev pub far : ℕ
 far = 2 ^ 30
+
+-- more columns than a sheet has
+abbrev pub mostColumns : ℕ
+mostColumns = 256
 
 -- a cell: a score, or none
 abbrev pub IsCell : ℕ → Type 0
@@ -41,6 +45,7 @@ pub record Relaxed (cells discounts : List ℕ) (d price i : ℕ) (dist par dist
 -- labels, and a mark a report: 0 while it is open
 pub record Labels (dist shut : List ℕ) : Type 0 where
   pub same : length shut ≡ length dist
+  pub few : length dist ≤ mostColumns
   pub small : (k : ℕ) → k < length dist → at dist k + at shut k < 2 ^ 31
 
 -- and the reports before lo are closed
@@ -62,6 +67,15 @@ pub record Found (dist shut : List ℕ) (v r : ℕ) : Type 0 where
   pub here : r < length dist → at dist r + at shut r ≡ v
   pub before : (k : ℕ) → k < r → at dist k + at shut k ≡ v → ⊥
 
+-- a label below this fits one number with its column
+abbrev pub near : ℕ
+near = 8388607
+
+-- r is no more than any label, and below near it is one, with its column
+pub record Near (dist shut : List ℕ) (r : ℕ) : Type 0 where
+  pub below : (k : ℕ) → k < length dist → r / mostColumns ≤ at dist k + at shut k
+  pub met : r / mostColumns < near → (r % mostColumns < length dist) × (at dist (r % mostColumns) + at shut (r % mostColumns) ≡ r / mostColumns)
+
 -- a nearest open report below cap, or the length
 pub record Nearest (dist shut : List ℕ) (cap j : ℕ) : Type 0 where
   pub upto : j ≤ length dist
@@ -70,10 +84,6 @@ pub record Nearest (dist shut : List ℕ) (cap j : ℕ) : Type 0 where
   pub nobody : (k : ℕ) → k < length dist → length dist ≤ j → cap ≤ at dist k + at shut k
 
 -- ---- the least score of a row
-
--- more columns than a sheet has
-abbrev pub mostColumns : ℕ
-mostColumns = 256
 
 -- score and column in one number: none comes after every score
 unfoldable pub key : ℕ → ℕ → ℕ

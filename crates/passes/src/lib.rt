@@ -9,7 +9,7 @@ ghost use lib.ListN.{length};
 ghost use mathlib.Core.Logic.{_⊎_};
 ghost use Rattle.laws.specs.Lists.{at};
 ghost use Rattle.matching.specs.Pairing.{none, leftOut};
-ghost use Rattle.passes.specs.Cells.{IsCell, far, mostColumns, key, Keyed, RowLeast, Fair, Relaxed, Labels, FromLabels, Low, Found, Nearest, Paid, Lifted, RowsUp, ColsUp};
+ghost use Rattle.passes.specs.Cells.{IsCell, far, mostColumns, key, Keyed, RowLeast, Fair, Relaxed, Labels, FromLabels, Low, Found, near, Near, Nearest, Paid, Lifted, RowsUp, ColsUp};
 
 // Above every label, and above what an admissible pair adds to one.
 pub const FAR: u32 = 1073741824;
@@ -19,6 +19,8 @@ const MOST_COLUMNS: u32 = 256;
 const KEY_SCORES: u32 = 8388608;
 
 const LAST_KEY: u32 = 2147483647;
+// A label below this fits one number with its column.
+const NEAR: u32 = 8388607;
 
 // The least score of a row, and a report that has it.
 pub struct Cheapest {
@@ -63,7 +65,7 @@ pub fn choose(a: u32, b: u32, x: u32, y: u32) -> u32
 }
 
 // Both are under 2^31: a signed comparison is one instruction in a vector.
-fn low(a: u32, b: u32) -> u32
+pub fn low(a: u32, b: u32) -> u32
     requires { ⌜ (a < 2 ^ 31) × (b < 2 ^ 31) ⌝ }
     ensures { λ r. ⌜ (r ≤ a) × ((r ≤ b) × ((a < b → r ≡ a) × (b ≤ a → r ≡ b))) ⌝ }
 {
@@ -131,7 +133,7 @@ fn find(dist: &[u32], shut: &[u32], v: u32) -> usize
 }
 
 // An open report of least label below cap, or the length.
-fn nearest(dist: &[u32], shut: &[u32], cap: u32) -> usize
+fn far_nearest(dist: &[u32], shut: &[u32], cap: u32) -> usize
     requires { ⌜ Labels (now dist) (now shut) × (cap < 2 ^ 31) ⌝ }
     ensures { λ r. ⌜ Nearest (now (dist .entry)) (now (shut .entry)) cap r ⌝ }
 {
@@ -141,6 +143,43 @@ fn nearest(dist: &[u32], shut: &[u32], cap: u32) -> usize
     } else {
         dist.len()
     }
+}
+
+// A label and its column in one number; labels from NEAR on count alike.
+fn near_of(label: u32, j: u32) -> u32
+    requires { ⌜ (label < 2 ^ 31) × (j < mostColumns) ⌝ }
+    ensures { λ r. ⌜ (label < near → r ≡ label * mostColumns + j) × ((near ≤ label → r ≡ near * mostColumns + j) × (r < 2 ^ 31)) ⌝ }
+{
+    low(label, NEAR) * MOST_COLUMNS + j
+}
+
+fn near_key(dist: &[u32], shut: &[u32]) -> u32
+    requires { ⌜ Labels (now dist) (now shut) ⌝ }
+    ensures { λ r. ⌜ Near (now (dist .entry)) (now (shut .entry)) r ⌝ }
+{
+    let mut best: u32 = LAST_KEY;
+    let mut j: usize = 0;
+    while j < dist.len() {
+        best = low(near_of(dist[j] + shut[j], j as u32), best);
+        j += 1;
+    }
+    best
+}
+
+// The same; where a label is near, one pass finds it and its column.
+fn nearest(dist: &[u32], shut: &[u32], cap: u32) -> usize
+    requires { ⌜ Labels (now dist) (now shut) × (cap < 2 ^ 31) ⌝ }
+    ensures { λ r. ⌜ Nearest (now (dist .entry)) (now (shut .entry)) cap r ⌝ }
+{
+    let k = near_key(dist, shut);
+    let v = k / MOST_COLUMNS;
+    if v >= NEAR {
+        return far_nearest(dist, shut, cap);
+    }
+    if v >= cap {
+        return dist.len();
+    }
+    idx(k % MOST_COLUMNS)
 }
 
 // The same from `lo` on, where the reports before are closed.
@@ -247,31 +286,41 @@ pub fn row_best(cells: &[u32]) -> Cheapest
     }
 }
 
-// A report from `from` on of score v that no track has, or the length.
-fn tight_free(cells: &[u32], owner: &[u32], v: u32, from: usize) -> usize
-    requires { ⌜ (length (now owner) ≡ length (now cells)) × (from ≤ length (now cells)) ⌝ }
-    ensures { λ r. ⌜ (r < length (now (cells .entry)) → (at (now (cells .entry)) r ≡ v) × (at (now (owner .entry)) r ≡ none)) ⌝ }
+// Report j, if it has score v and no track has it.
+fn seat_key(cell: u32, owner: u32, v: u32, j: u32) -> u32
+    requires { ⌜ j < mostColumns ⌝ }
+    ensures { λ r. ⌜ (r < 2 ^ 31) × (r < mostColumns → (r ≡ j) × ((cell ≡ v) × (owner ≡ none))) ⌝ }
 {
-    let mut j = from;
-    while j < cells.len() {
-        if cells[j] == v {
-            if owner[j] == NONE {
-                return j;
-            }
+    if cell == v {
+        if owner == NONE {
+            return j;
         }
-        j += 1;
     }
-    j
+    LAST_KEY
 }
 
-// Report h, of score v, if no track has it, or another such report, or the length.
+// The first report of score v that no track has, or a number beyond all: a loop with no way out goes by vectors.
+fn tight_free(cells: &[u32], owner: &[u32], v: u32) -> u32
+    requires { ⌜ (length (now owner) ≡ length (now cells)) × (length (now cells) ≤ mostColumns) ⌝ }
+    ensures { λ r. ⌜ (r < length (now (cells .entry)) → (at (now (cells .entry)) r ≡ v) × (at (now (owner .entry)) r ≡ none)) ⌝ }
+{
+    let mut best: u32 = LAST_KEY;
+    let mut j: usize = 0;
+    while j < cells.len() {
+        best = low(seat_key(cells[j], owner[j], v, j as u32), best);
+        j += 1;
+    }
+    best
+}
+
+// Report h, of score v, if no track has it, or another such report, or a number beyond all.
 pub fn seat(cells: &[u32], owner: &[u32], v: u32, h: u32) -> usize
-    requires { ⌜ (length (now owner) ≡ length (now cells)) × ((h < length (now cells)) × (at (now cells) h ≡ v)) ⌝ }
+    requires { ⌜ (length (now owner) ≡ length (now cells)) × ((length (now cells) ≤ mostColumns) × ((h < length (now cells)) × (at (now cells) h ≡ v))) ⌝ }
     ensures { λ r. ⌜ (r < length (now (cells .entry)) → (at (now (cells .entry)) r ≡ v) × (at (now (owner .entry)) r ≡ none)) ⌝ }
 {
     let hh = idx(h);
     if owner[hh] == NONE {
         return hh;
     }
-    tight_free(cells, owner, v, hh + 1)
+    idx(tight_free(cells, owner, v))
 }

@@ -67,6 +67,7 @@ module _ {cells : List ℕ} {m track : ℕ} {pairing owner prices discounts d0 p
     keys {lo} F = record {
       labels = record {
         same = omega (arith, T .ls, T .ld);
+        few = omega (arith, T .ld, R .shape .mm);
         small = λ e h.
             let g : e < m = omega (arith, T .ld) in
             ⊎-elim (λ z. omega (arith, T .cap e g)) (λ s. omega (arith, T .cap e g, few, R .shape .mm)) (T .two e g);
@@ -177,6 +178,7 @@ module _ {cells : List ℕ} {m track : ℕ} {pairing owner prices discounts d0 p
         pub ended-col : at owner j ≡ none → (leaver′ : ℕ) → Ended cells m (length prices) pairing owner prices discounts track (at dist j) j leaver′ dist par shut'
         ended-col free leaver′ = record {
           ld = T .ld;
+          cap = T .cap;
           lpar = T .lpar;
           ls = simp length-set (T .ls);
           root = T .root;
@@ -198,6 +200,7 @@ module _ {cells : List ℕ} {m track : ℕ} {pairing owner prices discounts d0 p
       pub ended-leave : m ≤ j → Ended cells m (length prices) pairing owner prices discounts track leaving none leaver dist par shut
       ended-leave out = record {
         ld = T .ld;
+        cap = T .cap;
         lpar = T .lpar;
         ls = T .ls;
         root = T .root;

@@ -2,14 +2,14 @@
 use Prim.Native.Nat.{ℕ, _+_, _-_, _≤_, _<_}
 use mathlib.Core.Path.{_≡_, ap, sym, subst, _∙_}
 use mathlib.Core.List.{List}
-use mathlib.Core.Logic.{inl, inr, ⊎-elim}
+use mathlib.Core.Logic.{_⊎_, inl, inr, ⊎-elim}
 use native.Mathlib.Omega.{arith}
 use lib.ListN.{length, set, length-set}
 use lib.Seq.{getD-set-same, getD-set-other}
 use Rattle.laws.specs.Lists.{at}
 use Rattle.matching.specs.Pairing.{none, leftOut}
 use Rattle.passes.specs.Cells.{Paid, far, RowsUp, ColsUp}
-use Rattle.paths.specs.State.{cell, Shape, Prices, Own, Match, Closed, Link, Tight, Ready, Ended, Turn, Settled, Done, Inserted}
+use Rattle.paths.specs.State.{cell, Shape, Prices, Own, Match, Closed, Link, Tight, Ready, Ended, Turn, Settled, Done, Inserted, Reached}
 use Rattle.laws.proofs.Stores.{le-or-lt}
 use Rattle.laws.proofs.Stores.{same-or}
 
@@ -136,7 +136,7 @@ module _ (cells : List ℕ) (m track : ℕ) (pairing owner prices discounts d0 p
   pub turned-at : (x : ℕ) → x ≡ track → Turn cells m n (set prices1 x (at prices1 x + D)) discounts1 track par shut report leaver pairing owner
   turned-at x e = rw e turned
 
-  inserted-r : (pairing' owner' : List ℕ) → Settled cells m n prices2 discounts1 track pairing pairing' owner' → Inserted cells m n track pairing prices pairing' owner' prices2 discounts1
+  inserted-r : (pairing' owner' : List ℕ) → Settled cells m n prices2 discounts1 track pairing owner pairing' owner' → Inserted cells m n track pairing prices pairing' owner' prices2 discounts1
   inserted-r pairing' owner' S = record {
     good = record { shape = S .shape; P = fair2; M = S .M };
     done = λ i h a. three (Done m pairing' prices2 i) i h (λ q. rw q (S .done-r)) (λ p b. S .done i h p)
@@ -144,23 +144,51 @@ module _ (cells : List ℕ) (m track : ℕ) (pairing owner prices discounts d0 p
     done-r = S .done-r;
   }
 
-  pub inserted : (x : ℕ) → x ≡ track → (pairing' owner' : List ℕ) → Settled cells m n (set prices1 x (at prices1 x + D)) discounts1 track pairing pairing' owner'
+  pub inserted : (x : ℕ) → x ≡ track → (pairing' owner' : List ℕ) → Settled cells m n (set prices1 x (at prices1 x + D)) discounts1 track pairing owner pairing' owner'
       → Inserted cells m n track pairing prices pairing' owner' (set prices1 x (at prices1 x + D)) discounts1
   inserted x e pairing' owner' S = rw e (inserted-r pairing' owner' (rw e at S))
 
-  pub u1-small : (x : ℕ) → x ≡ track → at prices1 x + D ≤ leftOut
-  u1-small x e = omega (arith, ap (at prices1) e, u1-r, E .dr)
+  -- what is left of a paired track's way to a free report
+  rises : (i j : ℕ) → i < n → j < m → (at pairing i < m) ⊎ (i ≡ track) → at owner j ≡ none → cell cells m i j < far
+      → ((at pairing i < m) × (at prices2 i ≡ at prices i)) ⊎ (at prices2 i + (at dist j - D) ≤ cell cells m i j)
+  rises i j h g f z a =
+      let w : at discounts j ≡ 0 = ⊎-elim (λ y. y .1) (λ o. absurd (omega (arith, o .there, R .shape .nn))) (R .M .owned j g (λ e. omega (arith, R .shape .mm))) in
+      let w1 = free' j g z w in
+      let q1 = feas' i j h g a in
+      ⊎-elim
+      (λ p. ⊎-elim (λ l. inl (p, omega (arith, u-pair i h p)))
+      (λ l. let b = ⊎-elim (λ y. absurd (omega (arith, R .shape .mm))) (λ y. y .1 .1) (R .M .paired i h) in
+      inr (omega (arith, u-pair i h p, near-row i p b l .seen j g a))) (le-or-lt D (at dist (at pairing i))))
+      (λ q. inr (omega (arith, ap (at prices2) q, u-r, E .root j g (rw q at a), ap (λ (k : ℕ). cell cells m k j) q)))
+      f
+
+  reached-r : (pairing' owner' : List ℕ) → Settled cells m n prices2 discounts1 track pairing owner pairing' owner' → Reached cells m n pairing owner prices dist D pairing' owner' prices2
+  reached-r pairing' owner' S = record {
+    ld = E .ld;
+    cap = E .cap;
+    end = omega (arith, E .dr);
+    free = S .moved .free;
+    rise = λ i j h g p z a. rises i j h g (S .moved .from i h p) (S .moved .free j g z) a;
+  }
 
   len2 : (x : ℕ) → length (set prices1 x (at prices1 x + D)) ≡ length prices
   len2 x = simp length-set (RU .lu)
 
+  pub reached-len : (x : ℕ) → x ≡ track → (pairing' owner' : List ℕ) → Settled cells m (length (set prices1 x (at prices1 x + D))) (set prices1 x (at prices1 x + D)) discounts1 track pairing owner pairing' owner'
+      → Reached cells m n pairing owner prices dist D pairing' owner' (set prices1 x (at prices1 x + D))
+  reached-len x e pairing' owner' S =
+      rw e (reached-r pairing' owner' (rw e at (subst (λ (k : ℕ). Settled cells m k (set prices1 x (at prices1 x + D)) discounts1 track pairing owner pairing' owner') (len2 x) S)))
+
+  pub u1-small : (x : ℕ) → x ≡ track → at prices1 x + D ≤ leftOut
+  u1-small x e = omega (arith, ap (at prices1) e, u1-r, E .dr)
+
   pub turned-len : (x : ℕ) → x ≡ track → Turn cells m (length (set prices1 x (at prices1 x + D))) (set prices1 x (at prices1 x + D)) discounts1 track par shut report leaver pairing owner
   turned-len x e = subst (λ (k : ℕ). Turn cells m k (set prices1 x (at prices1 x + D)) discounts1 track par shut report leaver pairing owner) (sym (len2 x)) (turned-at x e)
 
-  pub inserted-len : (x : ℕ) → x ≡ track → (pairing' owner' : List ℕ) → Settled cells m (length (set prices1 x (at prices1 x + D))) (set prices1 x (at prices1 x + D)) discounts1 track pairing pairing' owner'
+  pub inserted-len : (x : ℕ) → x ≡ track → (pairing' owner' : List ℕ) → Settled cells m (length (set prices1 x (at prices1 x + D))) (set prices1 x (at prices1 x + D)) discounts1 track pairing owner pairing' owner'
       → Inserted cells m n track pairing prices pairing' owner' (set prices1 x (at prices1 x + D)) discounts1
   inserted-len x e pairing' owner' S =
-      inserted x e pairing' owner' (subst (λ (k : ℕ). Settled cells m k (set prices1 x (at prices1 x + D)) discounts1 track pairing pairing' owner') (len2 x) S)
+      inserted x e pairing' owner' (subst (λ (k : ℕ). Settled cells m k (set prices1 x (at prices1 x + D)) discounts1 track pairing owner pairing' owner') (len2 x) S)
 
 -- a report nearer than D is its owner's
 pub paid : (cells : List ℕ) (m track : ℕ) (pairing owner prices discounts d0 p0 s0 : List ℕ) → Ready cells m track pairing owner prices discounts d0 p0 s0

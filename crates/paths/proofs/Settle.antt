@@ -4,14 +4,13 @@ use mathlib.Core.Path.{_≡_, ap, sym, _∙_}
 use mathlib.Core.List.{List}
 use mathlib.Core.Logic.{_⊎_, inl, inr, ⊎-elim}
 use native.Mathlib.Omega.{arith}
-use lib.ListN.{set, length-set}
-use lib.Seq.{getD-set-same, getD-set-other}
+use lib.ListN.{set}
 use Rattle.laws.specs.Lists.{at}
 use Rattle.matching.specs.Pairing.{none, leftOut}
 use Rattle.passes.specs.Cells.{far}
-use Rattle.paths.specs.State.{Own, Flips, Flipped, Turn, Settled}
+use Rattle.paths.specs.State.{Flips, Flipped, Turn, Settled}
 use Rattle.laws.proofs.Stores.{same-or}
-use Rattle.paths.proofs.Swap.{chain-set}
+use Rattle.paths.proofs.Swap.{gone, stays, vacated, shape1, chain-set}
 
 module _ (cells : List ℕ) (m n : ℕ) (prices discounts : List ℕ) (track : ℕ) (par shut : List ℕ) (report leaver : ℕ) (pairing owner : List ℕ)
     (T : Turn cells m n prices discounts track par shut report leaver pairing owner) where
@@ -19,9 +18,10 @@ module _ (cells : List ℕ) (m n : ℕ) (prices discounts : List ℕ) (track : �
     at-col : (report < m) × ((at owner report ≡ none) × (far ≤ at shut report))
     at-col = ⊎-elim (λ x. x) (λ x. absurd (cn (x .0))) (T .end)
 
-    pub flips-col : Flips cells m n prices discounts track par shut pairing pairing owner report
+    pub flips-col : Flips cells m n prices discounts track par shut pairing owner pairing owner report
     flips-col = record {
       shape = T .shape;
+      moved = record { from = λ i h l. inl l; free = λ j h z. z };
       lpar = T .lpar;
       ls = T .ls;
       rr = T .rr;
@@ -38,9 +38,10 @@ module _ (cells : List ℕ) (m n : ℕ) (prices discounts : List ℕ) (track : �
       });
     }
 
-    pub settled-col : (pairing' owner' : List ℕ) → Flipped cells m n prices discounts track pairing pairing' owner' → Settled cells m n prices discounts track pairing pairing' owner'
+    pub settled-col : (pairing' owner' : List ℕ) → Flipped cells m n prices discounts track pairing owner pairing' owner' → Settled cells m n prices discounts track pairing owner pairing' owner'
     settled-col pairing' owner' F = record {
       shape = F .shape;
+      moved = F .moved;
       M = F .whole .M;
       done = λ i h l. inl (F .kept i h l);
       done-r = inl (F .whole .rp);
@@ -50,9 +51,10 @@ module _ (cells : List ℕ) (m n : ℕ) (prices discounts : List ℕ) (track : �
     at-row : ((leaver ≡ track) × (at prices track ≡ leftOut)) ⊎ ((leaver < n) × ((at pairing leaver < m) × ((far ≤ at shut (at pairing leaver)) × (at prices leaver ≡ leftOut))))
     at-row = ⊎-elim (λ x. absurd (omega (arith, x .0, T .shape .mm))) (λ x. x .1) (T .end)
 
-    pub settled-r : leaver ≡ track → Settled cells m n prices discounts track pairing pairing owner
+    pub settled-r : leaver ≡ track → Settled cells m n prices discounts track pairing owner pairing owner
     settled-r e = record {
       shape = T .shape;
+      moved = record { from = λ i h l. inl l; free = λ j h z. z };
       M = T .M;
       done = λ i h l. inl l;
       done-r = ⊎-elim (λ x. inr (x .1)) (λ x. absurd (omega (arith, x .1 .0, ap (at pairing) e, T .rp, T .shape .mm))) at-row;
@@ -66,25 +68,15 @@ module _ (cells : List ℕ) (m n : ℕ) (prices discounts : List ℕ) (track : �
       pairing1 = set pairing leaver none
 
       pair1-row : at pairing1 leaver ≡ none
-      pair1-row = getD-set-same pairing leaver none 0 (omega (arith, T .shape .lp, left-out .0))
+      pair1-row = gone cells m n prices discounts pairing owner (T .shape) (T .M) leaver (left-out .0) (left-out .1 .0)
 
       pair1-o : (k : ℕ) → (k ≡ leaver → ⊥) → at pairing1 k ≡ at pairing k
-      pair1-o k d = getD-set-other pairing leaver k none 0 d
+      pair1-o = stays cells m n prices discounts pairing owner (T .shape) (T .M) leaver (left-out .0) (left-out .1 .0)
 
-      back : at owner (at pairing leaver) ≡ leaver
-      back = ⊎-elim (λ z. absurd (omega (arith, left-out .1 .0, T .shape .mm))) (λ z. z .1 .1) (T .M .paired leaver (left-out .0))
-
-      own-j : (j : ℕ) → (j ≡ at pairing leaver → ⊥) → Own cells m n pairing prices discounts j (at owner j) → Own cells m n pairing1 prices discounts j (at owner j)
-      own-j j e o = record {
-        there = o .there;
-        back = pair1-o (at owner j) (λ q. e (sym (o .back) ∙ ap (at pairing) q)) ∙ o .back;
-        adm = o .adm;
-        tight = o .tight;
-      }
-
-      flips-0 : Flips cells m n prices discounts track par shut pairing1 pairing1 owner (at pairing leaver)
+      flips-0 : Flips cells m n prices discounts track par shut pairing1 owner pairing1 owner (at pairing leaver)
       flips-0 = record {
-        shape = record { lC = T .shape .lC; lp = simp length-set (T .shape .lp); lo = T .shape .lo; lu = T .shape .lu; lw = T .shape .lw; nn = T .shape .nn; mm = T .shape .mm; cs = T .shape .cs };
+        shape = shape1 cells m n prices discounts pairing owner (T .shape) (T .M) leaver (left-out .0) (left-out .1 .0);
+        moved = record { from = λ i h l. inl l; free = λ j h z. z };
         lpar = T .lpar;
         ls = T .ls;
         rr = T .rr;
@@ -92,27 +84,24 @@ module _ (cells : List ℕ) (m n : ℕ) (prices discounts : List ℕ) (track : �
         state = inl (record {
           hm = left-out .1 .0;
           hc = left-out .1 .1 .0;
-          M = record {
-            owned = λ j h d. ⊎-elim inl (λ o. inr (own-j j d o)) (T .M .owned j h (λ e. omega (arith, T .shape .mm)));
-            paired = λ i h. ⊎-elim (λ q. inl (ap (at pairing1) q ∙ pair1-row))
-                (λ d. ⊎-elim (λ z. inl (pair1-o i d ∙ z))
-                (λ z. inr (rw (pair1-o i d) (z .0, ((λ e. d (sym (z .1 .1) ∙ ap (at owner) e ∙ back)), z .1 .1))))
-                (T .M .paired i h))
-                (same-or i leaver);
-          };
+          M = vacated cells m n prices discounts pairing owner (T .shape) (T .M) leaver (left-out .0) (left-out .1 .0);
           ch = chain-set cells m n prices discounts pairing track par shut leaver none (at shut (at pairing leaver)) (T .chain (at shut (at pairing leaver))) (omega arith);
           rp = pair1-o track (λ q. rn (sym q)) ∙ T .rp;
         });
       }
 
-      pub flips-row : (t : ℕ) → t ≡ leaver → Flips cells m n prices discounts track par shut (set pairing t none) (set pairing t none) owner (at pairing t)
+      pub flips-row : (t : ℕ) → t ≡ leaver → Flips cells m n prices discounts track par shut (set pairing t none) owner (set pairing t none) owner (at pairing t)
       flips-row t e = rw e flips-0
 
-      pub settled-row : (t : ℕ) → t ≡ leaver → (pairing' owner' : List ℕ) → Flipped cells m n prices discounts track (set pairing t none) pairing' owner' → Settled cells m n prices discounts track pairing pairing' owner'
+      pub settled-row : (t : ℕ) → t ≡ leaver → (pairing' owner' : List ℕ) → Flipped cells m n prices discounts track (set pairing t none) owner pairing' owner' → Settled cells m n prices discounts track pairing owner pairing' owner'
       settled-row t e pairing' owner' F =
-          let G : Flipped cells m n prices discounts track pairing1 pairing' owner' = rw e at F in
+          let G : Flipped cells m n prices discounts track pairing1 owner pairing' owner' = rw e at F in
           record {
             shape = G .shape;
+            moved = record {
+              from = λ i h l. ⊎-elim (λ a. ⊎-elim (λ q. absurd (omega (arith, ap (at pairing1) q, pair1-row, T .shape .mm))) (λ d. inl (omega (arith, pair1-o i d))) (same-or i leaver)) inr (G .moved .from i h l);
+              free = G .moved .free;
+            };
             M = G .whole .M;
             done = λ i h l. ⊎-elim (λ q. inr (ap (at prices) q ∙ left-out .1 .1 .1)) (λ d. inl (G .kept i h (omega (arith, pair1-o i d)))) (same-or i leaver);
             done-r = inl (G .whole .rp);

@@ -9,7 +9,7 @@ use lib.Seq.{getD-set-same, getD-set-other}
 use Rattle.laws.specs.Lists.{at}
 use Rattle.matching.specs.Pairing.{none}
 use Rattle.passes.specs.Cells.{far}
-use Rattle.paths.specs.State.{cell, Shape, Own, Match, Tight, Chain, Holed, Whole, Flips}
+use Rattle.paths.specs.State.{cell, Shape, Own, Match, Tight, Chain, Holed, Whole, Moved, Flips}
 use Rattle.laws.proofs.Stores.{same-or}
 
 module _ (cells : List ℕ) (m n : ℕ) (prices discounts pairing owner : List ℕ) (S : Shape cells m n pairing owner prices discounts) (h : ℕ) (hm : h < m)
@@ -67,6 +67,42 @@ module _ (cells : List ℕ) (m n : ℕ) (prices discounts pairing owner : List �
   pub shape' : Shape cells m n pairing' owner' prices discounts
   shape' = record { lC = S .lC; lp = simp length-set (S .lp); lo = simp length-set (S .lo); lu = S .lu; lw = S .lw; nn = S .nn; mm = S .mm; cs = S .cs }
 
+-- a track gives its report up: a hole
+module _ (cells : List ℕ) (m n : ℕ) (prices discounts pairing owner : List ℕ) (S : Shape cells m n pairing owner prices discounts)
+    (M : Match cells m n pairing owner prices discounts none) (t : ℕ) (tn : t < n) (tm : at pairing t < m) where
+  abbrev pairing1 : List ℕ
+  pairing1 = set pairing t none
+
+  pub gone : at pairing1 t ≡ none
+  gone = getD-set-same pairing t none 0 (omega (arith, S .lp))
+
+  pub stays : (k : ℕ) → (k ≡ t → ⊥) → at pairing1 k ≡ at pairing k
+  stays k d = getD-set-other pairing t k none 0 d
+
+  back : at owner (at pairing t) ≡ t
+  back = ⊎-elim (λ z. absurd (omega (arith, S .mm))) (λ z. z .1 .1) (M .paired t tn)
+
+  own-1 : (j : ℕ) → (j ≡ at pairing t → ⊥) → Own cells m n pairing prices discounts j (at owner j) → Own cells m n pairing1 prices discounts j (at owner j)
+  own-1 j e o = record {
+    there = o .there;
+    back = stays (at owner j) (λ q. e (sym (o .back) ∙ ap (at pairing) q)) ∙ o .back;
+    adm = o .adm;
+    tight = o .tight;
+  }
+
+  pub vacated : Match cells m n pairing1 owner prices discounts (at pairing t)
+  vacated = record {
+    owned = λ j h d. ⊎-elim inl (λ o. inr (own-1 j d o)) (M .owned j h (λ e. omega (arith, S .mm)));
+    paired = λ i h. ⊎-elim (λ q. inl (ap (at pairing1) q ∙ gone))
+        (λ d. ⊎-elim (λ z. inl (stays i d ∙ z))
+        (λ z. inr (rw (stays i d) (z .0, ((λ e. d (sym (z .1 .1) ∙ ap (at owner) e ∙ back)), z .1 .1))))
+        (M .paired i h))
+        (same-or i t);
+  }
+
+  pub shape1 : Shape cells m n pairing1 owner prices discounts
+  shape1 = record { lC = S .lC; lp = simp length-set (S .lp); lo = S .lo; lu = S .lu; lw = S .lw; nn = S .nn; mm = S .mm; cs = S .cs }
+
 -- a chain below p outlives a store at p's track
 module _ (cells : List ℕ) (m n : ℕ) (prices discounts pairing : List ℕ) (track : ℕ) (par shut : List ℕ) (i v bound : ℕ)
     (K : Chain cells m n pairing prices discounts track par shut bound) (low : at shut (at pairing i) ≤ bound) where
@@ -83,8 +119,8 @@ module _ (cells : List ℕ) (m n : ℕ) (prices discounts pairing : List ℕ) (t
   pub chain-set : Chain cells m n (set pairing i v) prices discounts track par shut (at shut (at pairing i))
   chain-set = record { step = λ c g s l. tight-set c l (at par c) (K .step c g s (omega arith)) }
 
-module _ (cells : List ℕ) (m n : ℕ) (prices discounts : List ℕ) (track : ℕ) (par shut pairing0 pairing owner : List ℕ) (h : ℕ)
-    (F : Flips cells m n prices discounts track par shut pairing0 pairing owner h) (hn : h ≡ none → ⊥) where
+module _ (cells : List ℕ) (m n : ℕ) (prices discounts : List ℕ) (track : ℕ) (par shut pairing0 owner0 pairing owner : List ℕ) (h : ℕ)
+    (F : Flips cells m n prices discounts track par shut pairing0 owner0 pairing owner h) (hn : h ≡ none → ⊥) where
   pub holed : Holed cells m n prices discounts track par shut pairing owner h
   holed = ⊎-elim (λ x. x) (λ x. absurd (hn (x .0))) (F .state)
 
@@ -106,6 +142,14 @@ module _ (cells : List ℕ) (m n : ℕ) (prices discounts : List ℕ) (track : �
   kept' : (k : ℕ) → k < n → at pairing0 k < m → at pairF k < m
   kept' k g l = ⊎-elim (λ q. omega (arith, ap (at pairF) q, pairF-i, holed .hm)) (λ d. omega (arith, getD-set-other pairing i k h 0 d, F .kept k g l)) (same-or k i)
 
+  moved' : Moved m n track pairing0 owner0 pairF (set owner h i)
+  moved' = record {
+    from = λ k g l. ⊎-elim (λ q. rw q (⊎-elim inr (λ a. F .moved .from i (tight-h .there) (a .0)) (tight-h .next)))
+        (λ d. F .moved .from k g (omega (arith, getD-set-other pairing i k h 0 d))) (same-or k i);
+    free = λ j g z. ⊎-elim (λ q. absurd (omega (arith, ap (at (set owner h i)) q, getD-set-same owner h i 0 (omega (arith, F .shape .lo, holed .hm)), tight-h .there, F .shape .nn)))
+        (λ d. F .moved .free j g (sym (getD-set-other owner h j i 0 d) ∙ z)) (same-or j h);
+  }
+
   state' : Holed cells m n prices discounts track par shut pairF (set owner h i) (at pairing i) ⊎ ((at pairing i ≡ none) × Whole cells m n prices discounts track pairF (set owner h i))
   state' = ⊎-elim
       (λ q. let z : at pairing i ≡ none = ap (at pairing) q ∙ holed .rp in
@@ -119,17 +163,18 @@ module _ (cells : List ℕ) (m n : ℕ) (prices discounts : List ℕ) (track : �
       }))
       (tight-h .next)
 
-  flip-h : Flips cells m n prices discounts track par shut pairing0 pairF (set owner h i) (at pairing i)
+  flip-h : Flips cells m n prices discounts track par shut pairing0 owner0 pairF (set owner h i) (at pairing i)
   flip-h = record {
     shape = shape' cells m n prices discounts pairing owner (F .shape) h (holed .hm) (holed .M) i (tight-h .there) (tight-h .adm) (tight-h .tight);
     lpar = F .lpar;
     ls = F .ls;
     rr = F .rr;
+    moved = moved';
     kept = kept';
     state = state';
   }
 
-  pub flip-step : (x y : ℕ) → x ≡ h → y ≡ at par x → Flips cells m n prices discounts track par shut pairing0 (set pairing y h) (set owner x (at par x)) (at pairing y)
+  pub flip-step : (x y : ℕ) → x ≡ h → y ≡ at par x → Flips cells m n prices discounts track par shut pairing0 owner0 (set pairing y h) (set owner x (at par x)) (at pairing y)
   flip-step x y ex ey = rw (ey, ex) flip-h
 
   fall-h : at shut (at pairing i) < at shut h

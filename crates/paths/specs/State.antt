@@ -1,6 +1,6 @@
 -- The engine's state: fair prices, the pairing with at most one hole, and the tree of a search. n tracks, m reports, and the cells of their
 -- sheet row by row.
-use Prim.Native.Nat.{ℕ, zero, suc, _+_, _*_, _≤_, _<_}
+use Prim.Native.Nat.{ℕ, zero, suc, _+_, _-_, _*_, _≤_, _<_}
 use mathlib.Core.Path.{_≡_}
 use mathlib.Core.List.{List, [], _∷_}
 use mathlib.Core.Logic.{_⊎_}
@@ -120,6 +120,7 @@ pub record Ready (cells : List ℕ) (m track : ℕ) (pairing owner prices discou
 -- what a search finds: labels, and D, at which a free report is reached or a track is left out
 pub record Ended (cells : List ℕ) (m n : ℕ) (pairing owner prices discounts : List ℕ) (track D report leaver : ℕ) (dist par shut : List ℕ) : Type 0 where
   pub ld : length dist ≡ m
+  pub cap : (j : ℕ) → j < m → at dist j ≤ leftOut
   pub lpar : length par ≡ m
   pub ls : length shut ≡ m
   pub root : (j : ℕ) → j < m → cell cells m track j < far → at prices track + at dist j ≤ cell cells m track j + at discounts j
@@ -154,16 +155,23 @@ pub record Whole (cells : List ℕ) (m n : ℕ) (prices discounts : List ℕ) (t
   pub M : Match cells m n pairing owner prices discounts none
   pub rp : at pairing track < m
 
-pub record Flips (cells : List ℕ) (m n : ℕ) (prices discounts : List ℕ) (track : ℕ) (par shut pairing0 pairing owner : List ℕ) (h : ℕ) : Type 0 where
+-- from one pairing to another: only the track comes in, and no report becomes free
+pub record Moved (m n track : ℕ) (pairing owner pairing' owner' : List ℕ) : Type 0 where
+  pub from : (i : ℕ) → i < n → at pairing' i < m → (at pairing i < m) ⊎ (i ≡ track)
+  pub free : (j : ℕ) → j < m → at owner' j ≡ none → at owner j ≡ none
+
+pub record Flips (cells : List ℕ) (m n : ℕ) (prices discounts : List ℕ) (track : ℕ) (par shut pairing0 owner0 pairing owner : List ℕ) (h : ℕ) : Type 0 where
   pub shape : Shape cells m n pairing owner prices discounts
+  pub moved : Moved m n track pairing0 owner0 pairing owner
   pub lpar : length par ≡ m
   pub ls : length shut ≡ m
   pub rr : track < n
   pub kept : (i : ℕ) → i < n → at pairing0 i < m → at pairing i < m
   pub state : Holed cells m n prices discounts track par shut pairing owner h ⊎ ((h ≡ none) × Whole cells m n prices discounts track pairing owner)
 
-pub record Flipped (cells : List ℕ) (m n : ℕ) (prices discounts : List ℕ) (track : ℕ) (pairing pairing' owner' : List ℕ) : Type 0 where
+pub record Flipped (cells : List ℕ) (m n : ℕ) (prices discounts : List ℕ) (track : ℕ) (pairing owner pairing' owner' : List ℕ) : Type 0 where
   pub shape : Shape cells m n pairing' owner' prices discounts
+  pub moved : Moved m n track pairing owner pairing' owner'
   pub whole : Whole cells m n prices discounts track pairing' owner'
   pub kept : (i : ℕ) → i < n → at pairing i < m → at pairing' i < m
 
@@ -185,8 +193,9 @@ pub record Turn (cells : List ℕ) (m n : ℕ) (prices discounts : List ℕ) (tr
       ⊎ ((report ≡ none) × (((leaver ≡ track) × (at prices track ≡ leftOut))
       ⊎ ((leaver < n) × ((at pairing leaver < m) × ((far ≤ at shut (at pairing leaver)) × (at prices leaver ≡ leftOut))))))
 
-pub record Settled (cells : List ℕ) (m n : ℕ) (prices discounts : List ℕ) (track : ℕ) (pairing pairing' owner' : List ℕ) : Type 0 where
+pub record Settled (cells : List ℕ) (m n : ℕ) (prices discounts : List ℕ) (track : ℕ) (pairing owner pairing' owner' : List ℕ) : Type 0 where
   pub shape : Shape cells m n pairing' owner' prices discounts
+  pub moved : Moved m n track pairing owner pairing' owner'
   pub M : Match cells m n pairing' owner' prices discounts none
   pub done : (i : ℕ) → i < n → at pairing i < m → (at pairing' i < m) ⊎ (at prices i ≡ leftOut)
   pub done-r : (at pairing' track < m) ⊎ (at prices track ≡ leftOut)
@@ -199,3 +208,12 @@ pub record Inserted (cells : List ℕ) (m n track : ℕ) (pairing prices pairing
   pub good : Good cells m n pairing' owner' prices' discounts'
   pub done : (i : ℕ) → i < n → Done m pairing prices i → Done m pairing' prices' i
   pub done-r : Done m pairing' prices' track
+
+-- how far the prices rose: of a track in a pair, before it meets the score of a free report, there is left what the search had still to go
+pub record Reached (cells : List ℕ) (m n : ℕ) (pairing owner prices dist : List ℕ) (D : ℕ) (pairing' owner' prices' : List ℕ) : Type 0 where
+  pub ld : length dist ≡ m
+  pub cap : (j : ℕ) → j < m → at dist j ≤ leftOut
+  pub end : D ≤ leftOut
+  pub free : (j : ℕ) → j < m → at owner' j ≡ none → at owner j ≡ none
+  pub rise : (i j : ℕ) → i < n → j < m → at pairing' i < m → at owner' j ≡ none → cell cells m i j < far
+      → ((at pairing i < m) × (at prices' i ≡ at prices i)) ⊎ (at prices' i + (at dist j - D) ≤ cell cells m i j)

@@ -13,13 +13,20 @@ use passes::raise_rows;
 use passes::relax;
 ghost use lib.ListN.{length};
 ghost use Rattle.laws.specs.Lists.{at};
-ghost use Rattle.paths.specs.State.{Scanned, Fit, Ready, Ended, Flips, Flipped, Turn, Settled, Inserted};
+ghost use Rattle.paths.specs.State.{Scanned, Fit, Ready, Ended, Flips, Flipped, Turn, Settled, Inserted, Reached};
 
-// How a search ended: at which label, and with a free report, or with a track that is left out.
+// How a search ended: at which label, with a free report or with a track that is left out, and after how many closed reports.
 struct Ending {
     d: u32,
     report: u32,
     leaver: u32,
+    steps: u32,
+}
+
+// How far a search went, and in how many steps.
+pub struct Reach {
+    pub d: u32,
+    pub steps: u32,
 }
 
 // Track i, at label d, offers to every report from lo on; those before are closed.
@@ -87,6 +94,7 @@ fn search(
                 d: d,
                 report: j as u32,
                 leaver: NONE,
+                steps: k,
             };
         }
         let x = d + (LEFT_OUT - prices[idx(o)]);
@@ -100,6 +108,7 @@ fn search(
         d: leaving,
         report: NONE,
         leaver: leaver,
+        steps: k,
     }
 }
 
@@ -116,8 +125,8 @@ fn flip(
     pairing: &mut [u32],
     owner: &mut [u32],
 )
-    requires { ⌜ Flips (now sheet) reports (length (now prices)) (now prices) (now discounts) track (now par) (now shut) (now pairing) (now pairing) (now owner) start ⌝ }
-    ensures { λ _. ⌜ Flipped (now (sheet .entry)) reports (length (now (prices .entry))) (now (prices .entry)) (now (discounts .entry)) track (now (pairing .entry)) (now (pairing .exit)) (now (owner .exit)) ⌝ }
+    requires { ⌜ Flips (now sheet) reports (length (now prices)) (now prices) (now discounts) track (now par) (now shut) (now pairing) (now owner) (now pairing) (now owner) start ⌝ }
+    ensures { λ _. ⌜ Flipped (now (sheet .entry)) reports (length (now (prices .entry))) (now (prices .entry)) (now (discounts .entry)) track (now (pairing .entry)) (now (owner .entry)) (now (pairing .exit)) (now (owner .exit)) ⌝ }
 {
     let mut h = start;
     while h != NONE {
@@ -146,7 +155,7 @@ fn finish(
     owner: &mut [u32],
 )
     requires { ⌜ Turn (now sheet) reports (length (now prices)) (now prices) (now discounts) track (now par) (now shut) report leaver (now pairing) (now owner) ⌝ }
-    ensures { λ _. ⌜ Settled (now (sheet .entry)) reports (length (now (prices .entry))) (now (prices .entry)) (now (discounts .entry)) track (now (pairing .entry)) (now (pairing .exit)) (now (owner .exit)) ⌝ }
+    ensures { λ _. ⌜ Settled (now (sheet .entry)) reports (length (now (prices .entry))) (now (prices .entry)) (now (discounts .entry)) track (now (pairing .entry)) (now (owner .entry)) (now (pairing .exit)) (now (owner .exit)) ⌝ }
 {
     if report != NONE {
         flip(
@@ -195,9 +204,9 @@ pub fn insert(
     dist: &mut [u32],
     par: &mut [u32],
     shut: &mut [u32],
-)
+) -> Reach
     requires { ⌜ Ready (now sheet) reports track (now pairing) (now owner) (now prices) (now discounts) (now dist) (now par) (now shut) ⌝ }
-    ensures { λ _. ⌜ Inserted (now (sheet .entry)) reports (length (now (prices .entry))) track (now (pairing .entry)) (now (prices .entry)) (now (pairing .exit)) (now (owner .exit)) (now (prices .exit)) (now (discounts .exit)) ⌝ }
+    ensures { λ r. ⌜ Inserted (now (sheet .entry)) reports (length (now (prices .entry))) track (now (pairing .entry)) (now (prices .entry)) (now (pairing .exit)) (now (owner .exit)) (now (prices .exit)) (now (discounts .exit)) × Reached (now (sheet .entry)) reports (length (now (prices .entry))) (now (pairing .entry)) (now (owner .entry)) (now (prices .entry)) (now (dist .exit)) (r .d) (now (pairing .exit)) (now (owner .exit)) (now (prices .exit)) ⌝ }
 {
     let f = search(
         sheet,
@@ -214,6 +223,7 @@ pub fn insert(
     let d = f.d;
     let report = f.report;
     let leaver = f.leaver;
+    let steps = f.steps;
     raise_cols(dist, d, discounts);
     raise_rows(pairing, owner, dist, d, prices);
     let x = idx(track);
@@ -231,4 +241,5 @@ pub fn insert(
         pairing,
         owner,
     );
+    Reach { d: d, steps: steps }
 }

@@ -1,46 +1,36 @@
-use Rattle.engine.proofs.Begin.{good-len, good-at}
-use mathlib.Core.Path.{_∙_}
+use Rattle.queue.proofs.Rise.{good-len, good-at}
 use Rattle.paths.specs.State.{Good, Done}
 use borrow.Author.Count.{below-none, below-more}
 use lib.ListN.{length}
 use mathlib.Core.Path.{_≡_}
 use Prim.Native.Nat.{ℕ, _≤_, _<_, _-_}
-use borrow.Author.Needs.{needs}
 use native.Mathlib.Omega.{arith}
+use borrow.Author.Needs.{needs}
 use Rattle.engine.proofs.assign.Statement.{statement}
 use Rattle.engine.proofs.assign.Tie as tie
 
 abbrev Inv-loop : tie.InvT-loop
-Inv-loop sheet m pairing₀ owner₀ prices₀ discounts₀ dist₀ par₀ shut₀ track₀ pairing owner prices discounts dist par shut track = Good sheet m (length prices₀) pairing owner prices discounts × ((track ≤ length prices₀) × (((i : ℕ) → i < track → Done m pairing prices i) × ((length dist ≡ m) × ((length par ≡ m) × (length shut ≡ m)))))
+Inv-loop sheet reports pairing₀ owner₀ prices₀ discounts₀ dist₀ par₀ shut₀ slack track₀ pairing owner prices discounts dist par shut track = Good sheet reports (length prices₀) pairing owner prices discounts × ((track ≤ length prices₀) × (((i : ℕ) → i < track → Done reports pairing prices i) × ((length dist ≡ reports) × ((length par ≡ reports) × (length shut ≡ reports)))))
 
 abbrev μ-loop : tie.MeasureT-loop
-μ-loop sheet m pairing₀ owner₀ prices₀ discounts₀ dist₀ par₀ shut₀ track₀ pairing owner prices discounts dist par shut track = length prices₀ - track
+μ-loop sheet reports pairing₀ owner₀ prices₀ discounts₀ dist₀ par₀ shut₀ slack track₀ pairing owner prices discounts dist par shut track = length prices₀ - track
 
-clear-requires : tie.Need-clear-requires Inv-loop μ-loop
-clear-requires c κs = search needs
-
-start-requires : tie.Need-start-requires Inv-loop μ-loop
-start-requires c κs = let K = c .before .before .before .before .before .before .before .before .before .before .before .before .clear .ensures in
-    (good-len _ _ _ _ _ _ _ (K .0), λ i h. K .1 i (omega (arith, K .0 .shape .lu)))
+match-all-requires : tie.Need-match-all-requires Inv-loop μ-loop
+match-all-requires c κs = c .before .before .before .before .before .before .before .before .before .before .before .before .before .before .before .before .before .pre
 
 loop-holds : tie.Need-loop-holds Inv-loop μ-loop
-loop-holds c = let s = c .before .before .before .before .before .before .before .before .before .before .before .before .before .before .before .before .before .before .before .before .before .before .before .before .before .before .before .before .before .before .before .before in
-    let H = c .before .before .before .before .before .before .start .ensures in
-    (good-len _ _ _ _ _ _ _ H, (search needs, (below-none _, (s .pre .ld, (s .pre .lpar, s .pre .ls)))))
+loop-holds c = (good-len _ _ _ _ _ _ _ (c .before .before .before .before .before .before .before .before .before .before .before .before .before .before .before .before .match-all .ensures), (search needs, (below-none _, (omega (arith, c .before .before .before .before .before .before .before .dist .given, c .before .before .before .before .before .before .before .before .before .before .before .before .before .before .before .before .before .before .before .before .before .before .before .before .before .before .before .before .before .before .before .before .before .before .pre .rooms .ld), (omega (arith, c .before .before .before .before .before .par .given, c .before .before .before .before .before .before .before .before .before .before .before .before .before .before .before .before .before .before .before .before .before .before .before .before .before .before .before .before .before .before .before .before .before .before .pre .rooms .lpar), omega (arith, c .before .before .before .shut .given, c .before .before .before .before .before .before .before .before .before .before .before .before .before .before .before .before .before .before .before .before .before .before .before .before .before .before .before .before .before .before .before .before .before .before .pre .rooms .ls))))))
 
 cast-visit : tie.Need-cast-visit Inv-loop μ-loop
-cast-visit c = let s = c .before .before .before .before .before .before .before .before .before .before .before .before .before .before .before .before .before .before .before .before .before .before .before .before .before .before .before .before .before .before .before .before .before .before in
-    let a = c .before .loop in
-    let G = a .inv .0 in
+cast-visit c =
+    let G = c .before .loop .inv .0 in
     omega (arith, G .shape .lu, G .shape .nn, c .loop-test .taken)
 
 visit-requires : tie.Need-visit-requires Inv-loop μ-loop
-visit-requires c κs = let s = c .before .before .before .before .before .before .before .before .before .before .before .before .before .before .before .before .before .before .before .before .before .before .before .before .before .before .before .before .before .before .before .before .before .before .before .before .before .before .before .before .before in
-    let a = c .before .before .before .before .before .before .before .before .loop in
-    let G = a .inv .0 in
-    let t = c .before .before .before .before .before .before .before .loop-test .taken in
-    let v = a .inv .1 .1 .1 in
-    record { good = good-len _ _ _ _ _ _ _ G; rr = t; ld = v .0; lpar = v .1 .0; ls = v .1 .1 }
+visit-requires c κs =
+    let G = c .before .before .before .before .before .before .before .before .loop .inv .0 in
+    let v = c .before .before .before .before .before .before .before .before .loop .inv .1 .1 .1 in
+    record { good = good-len _ _ _ _ _ _ _ G; rr = c .before .before .before .before .before .before .before .loop-test .taken; ld = v .0; lpar = v .1 .0; ls = v .1 .1 }
 
 add-track : tie.Need-add-track Inv-loop μ-loop
 add-track c = search needs
@@ -49,16 +39,13 @@ loop-less : tie.Need-loop-less Inv-loop μ-loop
 loop-less c = search needs
 
 loop-again : tie.Need-loop-again Inv-loop μ-loop
-loop-again c = let s = c .before .before .before .before .before .before .before .before .before .before .before .before .before .before .before .before .before .before .before .before .before .before .before .before .before .before .before .before .before .before .before .before .before .before .before .before .before .before .before .before .before .before .before .before .before .before .before .before .before .before .before .before .before .before .before .before in
-    let a = c .before .before .before .before .before .before .before .before .before .before .before .before .before .before .before .before .before .before .before .before .before .before .before .loop in
-    let G = a .inv .0 in
-    let t = c .before .before .before .before .before .before .before .before .before .before .before .before .before .before .before .before .before .before .before .before .before .before .loop-test .taken in
-    let v = a .inv .1 .1 .1 in
+loop-again c =
+    let G = c .before .before .before .before .before .before .before .before .before .before .before .before .before .before .before .before .before .before .before .before .before .before .before .loop .inv .0 in
     let I = c .before .before .before .before .before .before .before .before .before .before .before .before .before .before .visit .ensures in (
       good-at _ _ _ _ _ _ _ _ (G .shape .lu) (I .good),
       (
         omega (arith, G .shape .lu),
-        (below-more _ _ (λ i h. I .done i (omega arith) (a .inv .1 .1 .0 i h)) (I .done-r), (search needs, (search needs, search needs))),
+        (below-more _ _ (λ i h. I .done i (omega arith) (c .before .before .before .before .before .before .before .before .before .before .before .before .before .before .before .before .before .before .before .before .before .before .before .loop .inv .1 .1 .0 i h)) (I .done-r), (search needs, (search needs, search needs))),
       ),
     )
 
@@ -75,22 +62,22 @@ same-length-4 : tie.Need-same-length-4 Inv-loop μ-loop
 same-length-4 c = search needs
 
 same-length-5 : tie.Need-same-length-5 Inv-loop μ-loop
-same-length-5 c = search needs
+same-length-5 c = omega (arith, c .before .loop .inv .1 .1 .1 .0, c .before .before .before .before .before .before .before .before .before .before .before .before .before .before .before .before .before .before .before .before .before .before .before .before .before .before .before .before .before .before .before .before .before .before .before .before .pre .rooms .ld)
 
 same-length-6 : tie.Need-same-length-6 Inv-loop μ-loop
-same-length-6 c = search needs
+same-length-6 c = omega (arith, c .before .loop .inv .1 .1 .1 .1 .0, c .before .before .before .before .before .before .before .before .before .before .before .before .before .before .before .before .before .before .before .before .before .before .before .before .before .before .before .before .before .before .before .before .before .before .before .before .pre .rooms .lpar)
 
 same-length-7 : tie.Need-same-length-7 Inv-loop μ-loop
-same-length-7 c = search needs
+same-length-7 c = omega (arith, c .before .loop .inv .1 .1 .1 .1 .1, c .before .before .before .before .before .before .before .before .before .before .before .before .before .before .before .before .before .before .before .before .before .before .before .before .before .before .before .before .before .before .before .before .before .before .before .before .pre .rooms .ls)
+
+same-length-8 : tie.Need-same-length-8 Inv-loop μ-loop
+same-length-8 c = search needs
 
 returns : tie.Need-returns Inv-loop μ-loop
-returns c = let s = c .before .before .before .before .before .before .before .before .before .before .before .before .before .before .before .before .before .before .before .before .before .before .before .before .before .before .before .before .before .before .before .before .before .before in
-    let a = c .before .loop in
-    let G = a .inv .0 in
-    let K = c .before .before .before .before .before .before .before .before .before .before .before .before .before .before .before .before .before .before .before .before .before .clear .ensures in
-    let H = c .before .before .before .before .before .before .before .before .start .ensures in
-    let e = H .shape .lu ∙ K .0 .shape .lu in
-    record { good = good-at _ _ _ _ _ _ _ _ e G; done = λ i h. a .inv .1 .1 .0 i (omega (arith, G .shape .lu, c .loop-test .left, e)) }
+returns c =
+    let G = c .before .loop .inv .0 in
+    let H = c .before .before .before .before .before .before .before .before .before .before .before .before .before .before .before .before .before .before .match-all .ensures in
+    record { good = good-at _ _ _ _ _ _ _ _ (H .shape .lu) G; done = λ i h. c .before .loop .inv .1 .1 .0 i (omega (arith, G .shape .lu, c .loop-test .left, H .shape .lu)) }
 
 pub assign-spec : {M : Type 1} → statement M
 assign-spec =
@@ -98,8 +85,7 @@ assign-spec =
     (tie.spec
     Inv-loop
     μ-loop
-    clear-requires
-    start-requires
+    match-all-requires
     loop-holds
     cast-visit
     visit-requires
@@ -113,4 +99,5 @@ assign-spec =
     same-length-5
     same-length-6
     same-length-7
+    same-length-8
     returns)

@@ -1,8 +1,8 @@
-use Rattle.engine.proofs.Begin.{claimed-price, claimed-pair, claim-len, claim-cells}
+use borrow.Author.Needs.{needs}
+use Rattle.engine.proofs.Begin.{claimed-price, claimed-pair, contested, claimed-len, claim-len, claim-cells}
 use Rattle.laws.proofs.Sums.{row-in}
 use lib.ListN.{length}
 use native.Mathlib.Omega.{arith}
-use borrow.Author.Needs.{needs}
 use Rattle.engine.proofs.claim.Statement.{statement}
 use Rattle.engine.proofs.claim.Tie as tie
 
@@ -10,19 +10,19 @@ idx-requires : tie.Need-idx-requires
 idx-requires c κs = search needs
 
 mul-a : tie.Need-mul-a
-mul-a c = let s = c .before .before .before .before .before .before in
+mul-a c =
     let q = c .idx .ensures in
-    omega (arith, s .pre .good .shape .lC, row-in (c .idx .result) (length (s .args .prices .now)) (s .args .reports) (length (s .args .sheet .now)) (omega (arith, s .pre .rr)) (omega (arith, s .pre .good .shape .lC)))
+    omega (arith, c .before .before .before .before .before .before .pre .good .shape .lC, row-in (c .idx .result) (length (c .before .before .before .before .before .before .args .prices .now)) (c .before .before .before .before .before .before .args .reports) (length (c .before .before .before .before .before .before .args .sheet .now)) (omega (arith, c .before .before .before .before .before .before .pre .rr)) (omega (arith, c .before .before .before .before .before .before .pre .good .shape .lC)))
 
 add-e : tie.Need-add-e
-add-e c = let s = c .before .before .before .before .before .before in
+add-e c =
     let q = c .idx .ensures in
-    omega (arith, s .pre .good .shape .lC, row-in (c .idx .result) (length (s .args .prices .now)) (s .args .reports) (length (s .args .sheet .now)) (omega (arith, s .pre .rr)) (omega (arith, s .pre .good .shape .lC)))
+    omega (arith, c .before .before .before .before .before .before .pre .good .shape .lC, row-in (c .idx .result) (length (c .before .before .before .before .before .before .args .prices .now)) (c .before .before .before .before .before .before .args .reports) (length (c .before .before .before .before .before .before .args .sheet .now)) (omega (arith, c .before .before .before .before .before .before .pre .rr)) (omega (arith, c .before .before .before .before .before .before .pre .good .shape .lC)))
 
 mul-c : tie.Need-mul-c
-mul-c c = let s = c .before .before .before .before .before .before in
+mul-c c =
     let q = c .idx .ensures in
-    omega (arith, s .pre .good .shape .lC, row-in (c .idx .result) (length (s .args .prices .now)) (s .args .reports) (length (s .args .sheet .now)) (omega (arith, s .pre .rr)) (omega (arith, s .pre .good .shape .lC)))
+    omega (arith, c .before .before .before .before .before .before .pre .good .shape .lC, row-in (c .idx .result) (length (c .before .before .before .before .before .before .args .prices .now)) (c .before .before .before .before .before .before .args .reports) (length (c .before .before .before .before .before .before .args .sheet .now)) (omega (arith, c .before .before .before .before .before .before .pre .rr)) (omega (arith, c .before .before .before .before .before .before .pre .good .shape .lC)))
 
 sub-c : tie.Need-sub-c
 sub-c c = search needs
@@ -31,36 +31,34 @@ part-c-start : tie.Need-part-c-start
 part-c-start c = search needs
 
 part-c-end : tie.Need-part-c-end
-part-c-end c = let s = c .before .before .before .before .before .before in
+part-c-end c =
     let q = c .idx .ensures in
-    omega (arith, s .pre .good .shape .lC, row-in (c .idx .result) (length (s .args .prices .now)) (s .args .reports) (length (s .args .sheet .now)) (omega (arith, s .pre .rr)) (omega (arith, s .pre .good .shape .lC)))
+    omega (arith, c .before .before .before .before .before .before .pre .good .shape .lC, row-in (c .idx .result) (length (c .before .before .before .before .before .before .args .prices .now)) (c .before .before .before .before .before .before .args .reports) (length (c .before .before .before .before .before .before .args .sheet .now)) (omega (arith, c .before .before .before .before .before .before .pre .rr)) (omega (arith, c .before .before .before .before .before .before .pre .good .shape .lC)))
 
 row-best-requires : tie.Need-row-best-requires
-row-best-requires c κs = let s = c .before .before .before .before .before .before .before in
-    claim-cells _ _ _ _ _ _ _ (s .pre) _ (c .before .idx .ensures)
+row-best-requires c κs = claim-cells _ _ _ _ _ _ _ (c .before .before .before .before .before .before .before .pre) _ (c .before .idx .ensures)
 
 mul-prices : tie.Need-mul-prices
-mul-prices c = let s = c .before .before .before .before .before .before .before .before in
+mul-prices c =
     let q = c .before .before .idx .ensures in
-    omega (arith, s .pre .rr, s .pre .good .shape .lp, s .pre .good .shape .lo, s .pre .good .shape .nn, s .pre .good .shape .mm)
+    omega (arith, c .before .before .before .before .before .before .before .before .pre .rr, c .before .before .before .before .before .before .before .before .pre .good .shape .nn)
 
 slice-write-prices : tie.Need-slice-write-prices
-slice-write-prices c = let s = c .before .before .before .before .before .before .before .before in
+slice-write-prices c =
     let q = c .before .before .idx .ensures in
-    omega (arith, s .pre .rr, s .pre .good .shape .lp, s .pre .good .shape .lo, s .pre .good .shape .nn, s .pre .good .shape .mm)
+    omega (arith, c .before .before .before .before .before .before .before .before .pre .rr)
 
 same-length : tie.Need-same-length
 same-length c = search needs
 
 returns : tie.Need-returns
-returns c = let s = c .before .before .before .before .before .before .before .before .before in
-    let q = c .before .before .before .idx .ensures in
-    claimed-price _ _ _ _ _ _ _ (s .pre) _ q _ (c .before .row-best .ensures .capped) (c .before .row-best .ensures .below)
+returns c = claimed-price _ _ _ _ _ _ _ (c .before .before .before .before .before .before .before .before .before .pre) _ (c .before .before .before .idx .ensures) _ (c .before .row-best .ensures .capped) (c .before .row-best .ensures .below)
 
 seat-requires : tie.Need-seat-requires
-seat-requires c κs = let s = c .before .before .before .before .before .before .before .before .before .before in
-    let q = c .before .before .before .before .idx .ensures in
-    (claim-len _ _ _ _ _ _ _ (s .pre) _ q _ (c .before .before .row-best .ensures .capped) (c .before .before .row-best .ensures .below) .0, c .before .before .row-best .ensures .met (c .before .if1 .left))
+seat-requires c κs = (claim-len _ _ _ _ _ _ _ (c .before .before .before .before .before .before .before .before .before .before .pre) _ (c .before .before .before .before .idx .ensures) _ (c .before .before .row-best .ensures .capped) (c .before .before .row-best .ensures .below) .0, (claim-cells _ _ _ _ _ _ _ (c .before .before .before .before .before .before .before .before .before .before .pre) _ (c .before .before .before .before .idx .ensures) .0, c .before .before .row-best .ensures .met (c .before .if1 .left)))
+
+oust-requires : tie.Need-oust-requires
+oust-requires c κs = contested _ _ _ _ _ _ _ (c .before .before .before .before .before .before .before .before .before .before .before .before .before .before .before .pre) _ (c .before .before .before .before .before .before .before .before .before .idx .ensures) _ (c .before .before .before .before .before .before .before .row-best .ensures .capped) (c .before .before .before .before .before .before .before .row-best .ensures .below) _ (c .before .before .before .before .before .before .if1 .left) (c .before .before .before .before .before .before .before .row-best .ensures .met (c .before .before .before .before .before .before .if1 .left))
 
 same-length-2 : tie.Need-same-length-2
 same-length-2 c = search needs
@@ -68,38 +66,32 @@ same-length-2 c = search needs
 same-length-3 : tie.Need-same-length-3
 same-length-3 c = search needs
 
-returns-2 : tie.Need-returns-2
-returns-2 c = let s = c .before .before .before .before .before .before .before .before .before .before .before .before in
-    let q = c .before .before .before .before .before .before .idx .ensures in
-    claimed-price _ _ _ _ _ _ _ (s .pre) _ q _ (c .before .before .before .before .row-best .ensures .capped) (c .before .before .before .before .row-best .ensures .below)
-
-cast-pairing : tie.Need-cast-pairing
-cast-pairing c = let s = c .before .before .before .before .before .before .before .before .before .before .before .before in
-    let q = c .before .before .before .before .before .before .idx .ensures in
-    omega (arith, s .pre .rr, s .pre .good .shape .lp, s .pre .good .shape .lo, s .pre .good .shape .nn, s .pre .good .shape .mm)
-
-mul-pairing : tie.Need-mul-pairing
-mul-pairing c = let s = c .before .before .before .before .before .before .before .before .before .before .before .before in
-    let q = c .before .before .before .before .before .before .idx .ensures in
-    omega (arith, s .pre .rr, s .pre .good .shape .lp, s .pre .good .shape .lo, s .pre .good .shape .nn, s .pre .good .shape .mm)
-
-slice-write-pairing : tie.Need-slice-write-pairing
-slice-write-pairing c = let s = c .before .before .before .before .before .before .before .before .before .before .before .before in
-    let q = c .before .before .before .before .before .before .idx .ensures in
-    omega (arith, s .pre .rr, s .pre .good .shape .lp, s .pre .good .shape .lo, s .pre .good .shape .nn, s .pre .good .shape .mm)
-
-mul-owner : tie.Need-mul-owner
-mul-owner c = let s = c .before .before .before .before .before .before .before .before .before .before .before .before in
-    let q = c .before .before .before .before .before .before .idx .ensures in
-    omega (arith, s .pre .rr, s .pre .good .shape .lp, s .pre .good .shape .lo, s .pre .good .shape .nn, s .pre .good .shape .mm)
-
-slice-write-owner : tie.Need-slice-write-owner
-slice-write-owner c = let s = c .before .before .before .before .before .before .before .before .before .before .before .before in
-    let q = c .before .before .before .before .before .before .idx .ensures in
-    omega (arith, s .pre .rr, s .pre .good .shape .lp, s .pre .good .shape .lo, s .pre .good .shape .nn, s .pre .good .shape .mm)
-
 same-length-4 : tie.Need-same-length-4
 same-length-4 c = search needs
+
+returns-2 : tie.Need-returns-2
+returns-2 c = claimed-len _ _ _ _ _ _ _ (c .before .before .before .before .before .before .before .before .before .before .before .before .before .before .before .before .before .before .before .before .pre) _ (c .before .before .before .before .before .before .before .before .before .before .before .before .before .before .idx .ensures) _ (c .before .before .before .before .before .before .before .before .before .before .before .before .row-best .ensures .capped) (c .before .before .before .before .before .before .before .before .before .before .before .before .row-best .ensures .below) _ _ (c .before .before .before .before .oust .ensures)
+
+cast-pairing : tie.Need-cast-pairing
+cast-pairing c =
+    let q = c .before .before .before .before .before .before .idx .ensures in
+    omega (arith, c .before .before .before .before .before .before .before .before .before .before .before .before .pre .good .shape .mm)
+
+mul-pairing : tie.Need-mul-pairing
+mul-pairing c =
+    let q = c .before .before .before .before .before .before .idx .ensures in
+    omega (arith, c .before .before .before .before .before .before .before .before .before .before .before .before .pre .rr, c .before .before .before .before .before .before .before .before .before .before .before .before .pre .good .shape .lp, c .before .before .before .before .before .before .before .before .before .before .before .before .pre .good .shape .nn)
+
+slice-write-pairing : tie.Need-slice-write-pairing
+slice-write-pairing c =
+    let q = c .before .before .before .before .before .before .idx .ensures in
+    omega (arith, c .before .before .before .before .before .before .before .before .before .before .before .before .pre .rr, c .before .before .before .before .before .before .before .before .before .before .before .before .pre .good .shape .lp)
+
+mul-owner : tie.Need-mul-owner
+mul-owner c = omega (arith, c .before .before .before .before .before .before .before .before .before .before .before .before .pre .good .shape .lo, c .before .before .before .before .before .before .before .before .before .before .before .before .pre .good .shape .mm)
+
+slice-write-owner : tie.Need-slice-write-owner
+slice-write-owner c = omega (arith, c .before .before .before .before .before .before .before .before .before .before .before .before .pre .good .shape .lo)
 
 same-length-5 : tie.Need-same-length-5
 same-length-5 c = search needs
@@ -107,11 +99,13 @@ same-length-5 c = search needs
 same-length-6 : tie.Need-same-length-6
 same-length-6 c = search needs
 
+same-length-7 : tie.Need-same-length-7
+same-length-7 c = search needs
+
 returns-3 : tie.Need-returns-3
-returns-3 c = let s = c .before .before .before .before .before .before .before .before .before .before .before .before in
-    let q = c .before .before .before .before .before .before .idx .ensures in
-    let t = c .before .seat .ensures (omega (arith, claim-len _ _ _ _ _ _ _ (s .pre) _ q _ (c .before .before .before .before .row-best .ensures .capped) (c .before .before .before .before .row-best .ensures .below) .1, c .if2 .left)) in
-    claimed-pair _ _ _ _ _ _ _ (s .pre) _ q _ (c .before .before .before .before .row-best .ensures .capped) (c .before .before .before .before .row-best .ensures .below) _ (c .if2 .left) (c .before .before .before .if1 .left) (t .0) (t .1)
+returns-3 c =
+    let t = c .before .seat .ensures (omega (arith, claim-len _ _ _ _ _ _ _ (c .before .before .before .before .before .before .before .before .before .before .before .before .pre) _ (c .before .before .before .before .before .before .idx .ensures) _ (c .before .before .before .before .row-best .ensures .capped) (c .before .before .before .before .row-best .ensures .below) .1, c .if2 .left)) in
+    claimed-pair _ _ _ _ _ _ _ (c .before .before .before .before .before .before .before .before .before .before .before .before .pre) _ (c .before .before .before .before .before .before .idx .ensures) _ (c .before .before .before .before .row-best .ensures .capped) (c .before .before .before .before .row-best .ensures .below) _ (c .if2 .left) (c .before .before .before .if1 .left) (t .0) (t .1)
 
 pub claim-spec : {M : Type 1} → statement M
 claim-spec =
@@ -130,15 +124,17 @@ claim-spec =
     same-length
     returns
     seat-requires
+    oust-requires
     same-length-2
     same-length-3
+    same-length-4
     returns-2
     cast-pairing
     mul-pairing
     slice-write-pairing
     mul-owner
     slice-write-owner
-    same-length-4
     same-length-5
     same-length-6
+    same-length-7
     returns-3)

@@ -37,7 +37,10 @@ returns c = let S = c .before .before .before .before .before .before .before .b
       (λ j h. c .before .before .before .before .before .before .before .before .before .before .fill2 .ensures .1 j (omega (arith, S .lo)))
       (λ i h. c .before .before .before .before .before .before .fill3 .ensures .1 i h)
       (λ j h. c .before .before .fill4 .ensures .1 j (omega (arith, S .lw))),
-  λ i h. c .before .before .before .before .before .before .before .before .before .before .before .before .before .before .fill .ensures .1 i (omega (arith, S .lp)),
+  (
+    λ i h. c .before .before .before .before .before .before .before .before .before .before .before .before .before .before .fill .ensures .1 i (omega (arith, S .lp)),
+    λ j h. c .before .before .fill4 .ensures .1 j (omega (arith, S .lw)),
+  ),
 )
 
 pub clear-spec : {M : Type 1} → statement M

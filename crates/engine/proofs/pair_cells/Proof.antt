@@ -29,14 +29,19 @@ array-borrow-prefix-shut c = search needs
 slice-aggregate-assign-4 : tie.Need-slice-aggregate-assign-4
 slice-aggregate-assign-4 c = sym (length-take-le _ _ (c .before .before .before .before .before .before .before .before .before .before .before .pre .mm))
 
+array-borrow-prefix-slack : tie.Need-array-borrow-prefix-slack
+array-borrow-prefix-slack c = search needs
+
+slice-aggregate-assign-5 : tie.Need-slice-aggregate-assign-5
+slice-aggregate-assign-5 c = sym (length-take-le _ _ (c .before .before .before .before .before .before .before .before .before .before .before .before .pre .mm))
+
 assign-requires : tie.Need-assign-requires
 assign-requires c κs =
-    let T = c .before .before .before .before .before .before .before .before .before .before .before .pre in
+    let T = c .before .before .before .before .before .before .before .before .before .before .before .before .pre in
     record {
       shape = record { lC = T .lC; lp = T .lp; lo = length-take-le _ _ (T .mm); lu = refl; lw = T .lw; nn = T .nn; mm = T .mm; cs = T .cs };
-      ld = length-take-le _ _ (T .mm);
-      lpar = length-take-le _ _ (T .mm);
-      ls = length-take-le _ _ (T .mm);
+      rooms = record { ld = length-take-le _ _ (T .mm); lpar = length-take-le _ _ (T .mm); ls = length-take-le _ _ (T .mm) };
+      lk = length-take-le _ _ (T .mm);
     }
 
 same-length : tie.Need-same-length
@@ -50,7 +55,7 @@ same-length-3 c = search needs
 
 returns : tie.Need-returns
 returns c =
-    let S = c .before .before .before .before .before .before .before .before .before .before .assign .ensures in
+    let S = c .before .before .before .before .before .before .before .before .before .before .before .assign .ensures in
     record { lp = S .good .shape .lp; lu = S .good .shape .lu; lw = S .good .shape .lw; shown = shown S }
 
 pub pair-cells-spec : {M : Type 1} → statement M
@@ -65,6 +70,8 @@ pair-cells-spec =
     slice-aggregate-assign-3
     array-borrow-prefix-shut
     slice-aggregate-assign-4
+    array-borrow-prefix-slack
+    slice-aggregate-assign-5
     assign-requires
     same-length
     same-length-2

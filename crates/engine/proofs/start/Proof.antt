@@ -1,7 +1,6 @@
 use Rattle.laws.specs.Lists.{at}
 use Rattle.matching.specs.Pairing.{none}
-use Rattle.engine.proofs.Begin.{good-len, good-at}
-use mathlib.Core.Path.{_∙_}
+use Rattle.queue.proofs.Rise.{good-len, good-at}
 use Rattle.paths.specs.State.{Good}
 use lib.ListN.{length}
 use mathlib.Core.Path.{_≡_}
@@ -19,7 +18,7 @@ abbrev μ-loop : tie.MeasureT-loop
 
 loop-holds : tie.Need-loop-holds Inv-loop μ-loop
 loop-holds c = let s = c .before .before .before .before .before in
-    (s .pre .0, (search needs, λ i h g. s .pre .1 i g))
+    (s .pre .0, (search needs, λ i h g. s .pre .1 .0 i g))
 
 cast-claim : tie.Need-cast-claim Inv-loop μ-loop
 cast-claim c = let s = c .before .before .before .before .before .before .before in
@@ -32,7 +31,7 @@ claim-requires c κs = let s = c .before .before .before .before .before .before
     let a = c .before .before .before .before .loop in
     let G = a .inv .0 in
     let t = c .before .before .before .loop-test .taken in
-    record { good = good-len _ _ _ _ _ _ _ G; rr = t; rp = a .inv .1 .1 (a .track) (omega arith) (omega (arith, G .shape .lu)) }
+    record { good = good-len _ _ _ _ _ _ _ G; rr = t; rp = a .inv .1 .1 (a .track) (omega arith) (omega (arith, G .shape .lu)); zero = s .pre .1 .1 }
 
 add-track : tie.Need-add-track Inv-loop μ-loop
 add-track c = search needs
@@ -46,7 +45,7 @@ loop-again c = let s = c .before .before .before .before .before .before .before
     let G = a .inv .0 in
     let t = c .before .before .before .before .before .before .before .before .before .before .loop-test .taken in
     let K = c .before .before .before .before .before .before .claim .ensures in
-    (good-at _ _ _ _ _ _ _ _ (G .shape .lu) (K .good), (omega (arith, G .shape .lu), λ i h g. K .others i (λ q. omega arith) ∙ a .inv .1 .1 i (omega arith) g))
+    (good-at _ _ _ _ _ _ _ _ (G .shape .lu) (K .good), (omega (arith, G .shape .lu), λ i h g. K .others i (λ q. omega arith) (a .inv .1 .1 i (omega arith) g)))
 
 same-length : tie.Need-same-length Inv-loop μ-loop
 same-length c = search needs

@@ -1,33 +1,42 @@
-use mathlib.Core.Logic.{⊎-elim}
-use native.Mathlib.Omega.{arith}
 use borrow.Author.Needs.{needs}
+use native.Mathlib.Omega.{arith}
 use Rattle.passes.proofs.nearest.Statement.{statement}
 use Rattle.passes.proofs.nearest.Tie as tie
 
-least-requires : tie.Need-least-requires
-least-requires c κs = search needs
+near-key-requires : tie.Need-near-key-requires
+near-key-requires c κs = search needs
 
-find-requires : tie.Need-find-requires
-find-requires c κs = search needs
+far-nearest-requires : tie.Need-far-nearest-requires
+far-nearest-requires c κs = search needs
 
 returns : tie.Need-returns
-returns c = let f = c .find .ensures in
-    let l = c .before .before .least .ensures in
-    record {
-      upto = f .upto;
-      here = λ h. omega (arith, f .here h);
-      least = λ k h g. omega (arith, f .here g, l .below k h);
-      nobody = λ k h g. ⊎-elim (λ e. omega arith) (λ s. absurd (f .before (s .0) (omega (arith, s .1 .0)) (s .1 .1))) (l .met);
-    }
+returns c = search needs
 
 returns-2 : tie.Need-returns-2
-returns-2 c = let l = c .before .least .ensures in
+returns-2 c =
+    let n = c .before .before .near-key .ensures in
     record {
       upto = search needs;
       here = λ h. absurd (omega arith);
       least = λ k h g. absurd (omega arith);
-      nobody = λ k h g. omega (arith, l .below k h);
+      nobody = λ k h g. omega (arith, n .below k h);
     }
 
+idx-requires : tie.Need-idx-requires
+idx-requires c κs = search needs
+
+returns-3 : tie.Need-returns-3
+returns-3 c =
+    let n = c .before .before .before .near-key .ensures in
+    let m = n .met (omega arith) in
+    rw (c .idx .ensures) (record {
+      upto = omega (arith, m .0);
+      here = λ h. omega (arith, m .1);
+      least = λ k h g. omega (arith, m .1, n .below k h);
+      nobody = λ k h g. absurd (omega (arith, m .0));
+    })
+
 pub nearest-spec : {M : Type 1} → statement M
-nearest-spec = tie.close (tie.spec least-requires find-requires returns returns-2)
+nearest-spec =
+    tie.close
+    (tie.spec near-key-requires far-nearest-requires returns returns-2 idx-requires returns-3)

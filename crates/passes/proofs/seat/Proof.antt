@@ -12,16 +12,16 @@ shared-slice-read-if1 : tie.Need-shared-slice-read-if1
 shared-slice-read-if1 c = search needs
 
 returns : tie.Need-returns
-returns c = λ h. (rw (c .before .before .idx .ensures) (c .before .before .before .before .before .pre .1 .1), c .if1 .taken)
-
-add-tight-free : tie.Need-add-tight-free
-add-tight-free c = search needs
+returns c = λ h. (rw (c .before .before .idx .ensures) (c .before .before .before .before .before .pre .1 .1 .1), c .if1 .taken)
 
 tight-free-requires : tie.Need-tight-free-requires
 tight-free-requires c κs = search needs
 
+idx-requires-2 : tie.Need-idx-requires-2
+idx-requires-2 c κs = search needs
+
 returns-2 : tie.Need-returns-2
-returns-2 c = search needs
+returns-2 c = rw (c .idx2 .ensures) (c .before .tight-free .ensures)
 
 pub seat-spec : {M : Type 1} → statement M
 seat-spec =
@@ -31,6 +31,6 @@ seat-spec =
     mul-if1
     shared-slice-read-if1
     returns
-    add-tight-free
     tight-free-requires
+    idx-requires-2
     returns-2)

@@ -1,4 +1,4 @@
-use Rattle.paths.proofs.Lift.{paid, u1-small, turned-len, inserted-len}
+use Rattle.paths.proofs.Lift.{paid, u1-small, turned-len, inserted-len, reached-len}
 use native.Mathlib.Omega.{arith}
 use borrow.Author.Needs.{needs}
 use Rattle.paths.proofs.insert.Statement.{statement}
@@ -74,7 +74,7 @@ same-length-7 c = search needs
 returns : tie.Need-returns
 returns c = let s = c .before .before .before .before .before .before .before .before .before .before .before .before .before .before .before .before .before .before .before .before .before .before .before .before .before .before .before .before .before .before .before .before .before .before .before .before .before .before .before .before .before .before .before .before .before .before .before in
     let E = c .before .before .before .before .before .before .before .before .before .before .before .before .before .before .before .before .before .before .before .before .before .before .before .before .before .before .before .before .before .before .before .search .ensures in
-    inserted-len _ _ _ _ _ _ _ _ _ _ (s .pre) _ _ _ _ _ _ E _ _ (c .before .before .before .before .before .before .before .before .before .before .before .before .before .before .before .raise-rows .ensures) (c .before .before .before .before .before .before .before .before .before .before .before .before .before .before .before .before .before .before .before .before .before .before .raise-cols .ensures) _ (c .before .before .before .before .before .before .before .before .before .before .before .before .idx .ensures) _ _ (c .before .before .before .before .finish .ensures)
+    (inserted-len _ _ _ _ _ _ _ _ _ _ (s .pre) _ _ _ _ _ _ E _ _ (c .before .before .before .before .before .before .before .before .before .before .before .before .before .before .before .raise-rows .ensures) (c .before .before .before .before .before .before .before .before .before .before .before .before .before .before .before .before .before .before .before .before .before .before .raise-cols .ensures) _ (c .before .before .before .before .before .before .before .before .before .before .before .before .idx .ensures) _ _ (c .before .before .before .before .finish .ensures), reached-len _ _ _ _ _ _ _ _ _ _ (s .pre) _ _ _ _ _ _ E _ _ (c .before .before .before .before .before .before .before .before .before .before .before .before .before .before .before .raise-rows .ensures) (c .before .before .before .before .before .before .before .before .before .before .before .before .before .before .before .before .before .before .before .before .before .before .raise-cols .ensures) _ (c .before .before .before .before .before .before .before .before .before .before .before .before .idx .ensures) _ _ (c .before .before .before .before .finish .ensures))
 
 pub insert-spec : {M : Type 1} → statement M
 insert-spec =

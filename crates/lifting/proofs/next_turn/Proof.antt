@@ -1,0 +1,101 @@
+use Rattle.laws.proofs.Stores.{le-or-lt}
+use mathlib.Core.Logic.{⊎-elim}
+use Rattle.laws.specs.Lists.{at}
+use Rattle.matching.specs.Pairing.{none}
+use mathlib.Core.Path.{_≡_}
+use Prim.Native.Nat.{_≤_, _<_, _-_, _%_, _^_}
+use lib.ListN.{length}
+use native.Mathlib.Omega.{arith}
+use native.Mathlib.Nat.{add-sub-cancel}
+use borrow.Author.Needs.{needs}
+use Rattle.lifting.proofs.next_turn.Statement.{statement}
+use Rattle.lifting.proofs.next_turn.Tie as tie
+
+abbrev Inv-loop : tie.InvT-loop
+Inv-loop pairing prices best₀ j₀ best j = (j ≤ length prices) × ((best < 2 ^ 31) × (0 < best → ((best - 1) % 256 < length prices) × (at pairing ((best - 1) % 256) ≡ none)))
+
+abbrev μ-loop : tie.MeasureT-loop
+μ-loop pairing prices best₀ j₀ best j = length prices - j
+
+loop-holds : tie.Need-loop-holds Inv-loop μ-loop
+loop-holds c = (search needs, (omega arith, λ h. absurd (omega arith)))
+
+mul-v : tie.Need-mul-v Inv-loop μ-loop
+mul-v c = search needs
+
+shared-slice-read-v : tie.Need-shared-slice-read-v Inv-loop μ-loop
+shared-slice-read-v c = search needs
+
+mul-if-waiting : tie.Need-mul-if-waiting Inv-loop μ-loop
+mul-if-waiting c = search needs
+
+shared-slice-read-if-waiting : tie.Need-shared-slice-read-if-waiting Inv-loop μ-loop
+shared-slice-read-if-waiting c = omega (arith, c .before .before .before .before .before .before .pre .0)
+
+cast-turn-of : tie.Need-cast-turn-of Inv-loop μ-loop
+cast-turn-of c = omega (arith, c .before .before .before .before .before .before .pre .1 .0)
+
+turn-of-requires : tie.Need-turn-of-requires Inv-loop μ-loop
+turn-of-requires c κs = omega (arith, c .before .before .before .before .before .before .pre .1 .0)
+
+if-waiting-requires : tie.Need-if-waiting-requires Inv-loop μ-loop
+if-waiting-requires c κs = c .before .before .before .before .before .before .before .pre .1 .1 (c .before .before .before .before .loop .j) (c .before .before .before .loop-test .taken)
+
+high-requires : tie.Need-high-requires Inv-loop μ-loop
+high-requires c κs = (omega (arith, c .if-waiting .ensures .0, c .before .turn-of .ensures .0), c .before .before .before .before .before .loop .inv .1 .0)
+
+add-j : tie.Need-add-j Inv-loop μ-loop
+add-j c = search needs
+
+loop-less : tie.Need-loop-less Inv-loop μ-loop
+loop-less c = search needs
+
+loop-again : tie.Need-loop-again Inv-loop μ-loop
+loop-again c =
+    let p = c .before .before .before .before .before .before .loop in
+    let l = c .high .ensures in
+    let e = c .before .if-waiting .ensures in
+    let t = c .before .before .turn-of .ensures in (
+      search needs,
+      (
+        ⊎-elim (λ g. omega (arith, l .1 .1 .1 g, e .0, t .0)) (λ g. omega (arith, l .1 .1 .0 g, p .inv .1 .0)) (le-or-lt (p .best) (c .before .if-waiting .result)),
+        ⊎-elim (λ g. rw (l .1 .1 .1 g) (λ h. let q = e .1 h in rw (q .0, t .1) (c .before .before .before .before .before .loop-test .taken, q .1))) (λ g. rw (l .1 .1 .0 g) (p .inv .1 .1)) (le-or-lt (p .best) (c .before .if-waiting .result)),
+      ),
+    )
+
+returns : tie.Need-returns Inv-loop μ-loop
+returns c = λ h. absurd (omega arith)
+
+sub-result : tie.Need-sub-result Inv-loop μ-loop
+sub-result c = search needs
+
+add-result : tie.Need-add-result Inv-loop μ-loop
+add-result c = search needs
+
+returns-2 : tie.Need-returns-2 Inv-loop μ-loop
+returns-2 c =
+    λ h. let q = c .before .before .loop .inv .1 .1 (omega arith) in
+    (omega (arith, q .0), rw add-sub-cancel (q .1))
+
+pub next-turn-spec : {M : Type 1} → statement M
+next-turn-spec =
+    tie.close
+    (tie.spec
+    Inv-loop
+    μ-loop
+    loop-holds
+    mul-v
+    shared-slice-read-v
+    mul-if-waiting
+    shared-slice-read-if-waiting
+    cast-turn-of
+    turn-of-requires
+    if-waiting-requires
+    high-requires
+    add-j
+    loop-less
+    loop-again
+    returns
+    sub-result
+    add-result
+    returns-2)

@@ -1,0 +1,84 @@
+use Rattle.laws.proofs.Stores.{upd, keep}
+use Rattle.laws.specs.Lists.{at}
+use borrow.Author.Count.{below-none}
+use lib.ListN.{length, length-set}
+use mathlib.Core.Path.{_≡_, refl}
+use Prim.Native.Nat.{ℕ, _≤_, _<_, _-_}
+use native.Mathlib.Omega.{arith}
+use borrow.Author.Needs.{needs}
+use Rattle.lifting.proofs.spend.Statement.{statement}
+use Rattle.lifting.proofs.spend.Tie as tie
+
+abbrev Inv-loop : tie.InvT-loop
+Inv-loop slack₀ x j₀ slack j = (j ≤ length slack₀) × ((length slack ≡ length slack₀) × (((k : ℕ) → k < j → at slack k ≡ at slack₀ k - x) × ((k : ℕ) → j ≤ k → at slack k ≡ at slack₀ k)))
+
+abbrev μ-loop : tie.MeasureT-loop
+μ-loop slack₀ x j₀ slack j = length slack₀ - j
+
+loop-holds : tie.Need-loop-holds Inv-loop μ-loop
+loop-holds c = (search needs, (refl, (below-none _, λ k h. refl)))
+
+mul-beyond : tie.Need-mul-beyond Inv-loop μ-loop
+mul-beyond c = search needs
+
+slice-read-beyond : tie.Need-slice-read-beyond Inv-loop μ-loop
+slice-read-beyond c = search needs
+
+beyond-requires : tie.Need-beyond-requires Inv-loop μ-loop
+beyond-requires c κs =
+    let g : c .before .before .loop .j < length (c .before .before .before .before .args .slack .now) = omega (arith, c .before .before .loop .inv .1 .0, c .before .loop-test .taken) in
+    (omega (arith, c .before .before .before .before .pre .1 (c .before .before .loop .j) g, c .before .before .loop .inv .1 .1 .1 (c .before .before .loop .j) (omega arith)), omega (arith, c .before .before .before .before .pre .0))
+
+mul-slack : tie.Need-mul-slack Inv-loop μ-loop
+mul-slack c = search needs
+
+slice-write-slack : tie.Need-slice-write-slack Inv-loop μ-loop
+slice-write-slack c = search needs
+
+add-j : tie.Need-add-j Inv-loop μ-loop
+add-j c = search needs
+
+loop-less : tie.Need-loop-less Inv-loop μ-loop
+loop-less c = search needs
+
+loop-again : tie.Need-loop-again Inv-loop μ-loop
+loop-again c =
+    let a = c .before .before .before .loop in
+    let v = a .inv in
+    let t = c .before .before .loop-test .taken in (
+      omega (arith, v .1 .0),
+      (
+        simp length-set (v .1 .0),
+        (
+          upd (λ (k y : ℕ). y ≡ at (c .before .before .before .before .before .args .slack .now) k - c .before .before .before .before .before .args .x) (a .slack) (a .j) _ t (v .1 .1 .0)
+              (omega (arith, c .beyond .ensures, v .1 .1 .1 (a .j) (omega arith))),
+          keep (a .slack) (c .before .before .before .before .before .args .slack .now) (a .j) _ (v .1 .1 .1),
+        ),
+      ),
+    )
+
+same-length : tie.Need-same-length Inv-loop μ-loop
+same-length c = search needs
+
+returns : tie.Need-returns Inv-loop μ-loop
+returns c =
+    let v = c .before .loop .inv in
+    record { ls = v .1 .0; left = λ k h. v .1 .1 .0 k (omega (arith, v .1 .0)) }
+
+pub spend-spec : {M : Type 1} → statement M
+spend-spec =
+    tie.close
+    (tie.spec
+    Inv-loop
+    μ-loop
+    loop-holds
+    mul-beyond
+    slice-read-beyond
+    beyond-requires
+    mul-slack
+    slice-write-slack
+    add-j
+    loop-less
+    loop-again
+    same-length
+    returns)

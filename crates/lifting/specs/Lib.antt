@@ -1,0 +1,2 @@
+-- What the passes say by which the prices of all pairs rise together.
+pub mod Slack

@@ -1,0 +1,51 @@
+-- A slack a report: how far the prices of all pairs may rise together until one meets the score of that report, if it is free.
+use Prim.Native.Nat.{ℕ, _+_, _-_, _≤_, _<_}
+use mathlib.Core.Path.{_≡_}
+use mathlib.Core.List.{List}
+use lib.ListN.{length}
+use Rattle.laws.specs.Lists.{at}
+use Rattle.matching.specs.Pairing.{none, leftOut}
+use Rattle.passes.specs.Cells.{IsCell, far}
+
+-- a list of numbers that a price may have
+abbrev pub Small : List ℕ → Type 0
+Small a = (k : ℕ) → k < length a → at a k ≤ leftOut
+
+-- labels, their end d, and slacks
+pub record Slacks (dist : List ℕ) (d : ℕ) (slack : List ℕ) : Type 0 where
+  pub same : length dist ≡ length slack
+  pub end : d ≤ leftOut
+  pub labels : Small dist
+  pub small : Small slack
+
+-- a row of the sheet whose track has this price, and slacks
+pub record Row (cells : List ℕ) (price : ℕ) (slack : List ℕ) : Type 0 where
+  pub same : length cells ≡ length slack
+  pub cs : (k : ℕ) → k < length slack → IsCell (at cells k)
+  pub top : price ≤ leftOut
+  pub small : Small slack
+
+pub record Kept (cells : List ℕ) (price : ℕ) (slack slack' : List ℕ) : Type 0 where
+  pub ls : length slack' ≡ length slack
+  pub less : (k : ℕ) → k < length slack → at slack' k ≤ at slack k
+  pub room : (k : ℕ) → k < length slack → at cells k < far → at slack' k ≤ at cells k - price
+
+pub record Tightened (dist : List ℕ) (d : ℕ) (slack slack' : List ℕ) : Type 0 where
+  pub ls : length slack' ≡ length slack
+  pub less : (k : ℕ) → k < length slack → at slack' k ≤ at slack k
+  pub room : (k : ℕ) → k < length slack → at slack' k ≤ at dist k - d
+
+-- owners beside slacks
+pub record Beside (owner slack : List ℕ) : Type 0 where
+  pub same : length owner ≡ length slack
+  pub small : Small slack
+
+pub record Spent (x : ℕ) (slack slack' : List ℕ) : Type 0 where
+  pub ls : length slack' ≡ length slack
+  pub left : (k : ℕ) → k < length slack → at slack' k ≡ at slack k - x
+
+-- a rises by x where the other list has a partner
+pub record Raised (other : List ℕ) (x : ℕ) (a a' : List ℕ) : Type 0 where
+  pub la : length a' ≡ length a
+  pub alone : (k : ℕ) → k < length a → at other k ≡ none → at a' k ≡ at a k
+  pub paired : (k : ℕ) → k < length a → (at other k ≡ none → ⊥) → at a' k ≡ at a k + x

@@ -1,0 +1,120 @@
+use Rattle.queue.proofs.Rise.{good-at, good-len, waits}
+use Rattle.queue.specs.State.{Rooms}
+use Rattle.paths.specs.State.{Good}
+use Prim.Native.Nat.{_≤_, _-_}
+use lib.ListN.{length}
+use native.Mathlib.Omega.{arith}
+use borrow.Author.Needs.{needs}
+use Rattle.queue.proofs.first_turns.Statement.{statement}
+use Rattle.queue.proofs.first_turns.Tie as tie
+
+abbrev Inv-loop : tie.InvT-loop
+Inv-loop sheet reports pairing₀ owner₀ prices₀ discounts₀ dist₀ par₀ shut₀ k₀ pairing owner prices discounts dist par shut k = Good sheet reports (length prices₀) pairing owner prices discounts × (Rooms reports dist par shut × (k ≤ length prices₀))
+
+abbrev μ-loop : tie.MeasureT-loop
+μ-loop sheet reports pairing₀ owner₀ prices₀ discounts₀ dist₀ par₀ shut₀ k₀ pairing owner prices discounts dist par shut k = length prices₀ - k
+
+loop-holds : tie.Need-loop-holds Inv-loop μ-loop
+loop-holds c = (c .before .before .before .before .before .before .before .before .pre .0, (c .before .before .before .before .before .before .before .before .pre .1, search needs))
+
+next-turn-requires : tie.Need-next-turn-requires Inv-loop μ-loop
+next-turn-requires c κs =
+    let G = c .before .before .before .loop .inv .0 in
+    (omega (arith, G .shape .lp, G .shape .lu), (omega (arith, G .shape .lu, G .shape .nn), λ k h. G .P .um k (omega (arith, G .shape .lu))))
+
+same-length : tie.Need-same-length Inv-loop μ-loop
+same-length c = search needs
+
+same-length-2 : tie.Need-same-length-2 Inv-loop μ-loop
+same-length-2 c = search needs
+
+same-length-3 : tie.Need-same-length-3 Inv-loop μ-loop
+same-length-3 c = search needs
+
+same-length-4 : tie.Need-same-length-4 Inv-loop μ-loop
+same-length-4 c = search needs
+
+same-length-5 : tie.Need-same-length-5 Inv-loop μ-loop
+same-length-5 c = search needs
+
+same-length-6 : tie.Need-same-length-6 Inv-loop μ-loop
+same-length-6 c = search needs
+
+same-length-7 : tie.Need-same-length-7 Inv-loop μ-loop
+same-length-7 c = search needs
+
+returns : tie.Need-returns Inv-loop μ-loop
+returns c = c .before .before .before .before .before .loop .inv .0
+
+sub-insert : tie.Need-sub-insert Inv-loop μ-loop
+sub-insert c = search needs
+
+insert-requires : tie.Need-insert-requires Inv-loop μ-loop
+insert-requires c κs =
+    let t = c .before .before .before .before .before .before .before .before .next-turn .ensures (omega (arith, c .before .before .before .before .before .before .before .if1 .left)) in
+    waits _ _ _ _ _ _ _ _ _ _ (good-len _ _ _ _ _ _ _ (c .before .before .before .before .before .before .before .before .before .before .before .before .loop .inv .0)) (c .before .before .before .before .before .before .before .before .before .before .before .before .loop .inv .1 .0) (t .0) (t .1)
+
+next-round-requires : tie.Need-next-round-requires Inv-loop μ-loop
+next-round-requires c κs = omega (arith, c .before .before .before .before .before .before .before .before .before .before .before .before .before .before .before .before .before .before .before .before .before .before .before .before .before .before .before .loop .inv .0 .shape .lu, c .before .before .before .before .before .before .before .before .before .before .before .before .before .before .insert .ensures .0 .good .shape .lu, c .before .before .before .before .before .before .before .before .before .before .before .before .before .before .before .before .before .before .before .before .before .before .before .before .before .before .loop-test .taken)
+
+loop-less : tie.Need-loop-less Inv-loop μ-loop
+loop-less c = omega (arith, c .next-round .ensures .0, c .before .before .before .before .before .before .before .before .before .before .before .before .before .before .before .before .before .before .before .before .before .before .before .before .before .before .before .before .loop .inv .0 .shape .lu, c .before .before .before .before .before .before .before .before .before .before .before .before .before .before .before .before .before .before .before .before .before .before .before .before .before .before .before .loop-test .taken)
+
+loop-again : tie.Need-loop-again Inv-loop μ-loop
+loop-again c =
+    let G = c .before .before .before .before .before .before .before .before .before .before .before .before .before .before .before .before .before .before .before .before .before .before .before .before .before .before .before .before .loop .inv .0 in
+    (good-at _ _ _ _ _ _ _ _ (G .shape .lu) (c .before .before .before .before .before .before .before .before .before .before .before .before .before .before .before .insert .ensures .0 .good), (record { ld = search needs; lpar = omega (arith, c .before .before .before .before .par .given, c .before .before .before .before .before .before .before .before .before .before .before .before .before .before .before .before .before .before .before .before .before .before .before .before .before .before .before .before .loop .inv .1 .0 .lpar); ls = omega (arith, c .before .before .shut .given, c .before .before .before .before .before .before .before .before .before .before .before .before .before .before .before .before .before .before .before .before .before .before .before .before .before .before .before .before .loop .inv .1 .0 .ls) }, omega (arith, c .next-round .ensures .1, G .shape .lu, c .before .before .before .before .before .before .before .before .before .before .before .before .before .before .before .insert .ensures .0 .good .shape .lu)))
+
+same-length-8 : tie.Need-same-length-8 Inv-loop μ-loop
+same-length-8 c = search needs
+
+same-length-9 : tie.Need-same-length-9 Inv-loop μ-loop
+same-length-9 c = search needs
+
+same-length-10 : tie.Need-same-length-10 Inv-loop μ-loop
+same-length-10 c = search needs
+
+same-length-11 : tie.Need-same-length-11 Inv-loop μ-loop
+same-length-11 c = search needs
+
+same-length-12 : tie.Need-same-length-12 Inv-loop μ-loop
+same-length-12 c = search needs
+
+same-length-13 : tie.Need-same-length-13 Inv-loop μ-loop
+same-length-13 c = search needs
+
+same-length-14 : tie.Need-same-length-14 Inv-loop μ-loop
+same-length-14 c = search needs
+
+returns-2 : tie.Need-returns-2 Inv-loop μ-loop
+returns-2 c = c .before .loop .inv .0
+
+pub first-turns-spec : {M : Type 1} → statement M
+first-turns-spec =
+    tie.close
+    (tie.spec
+    Inv-loop
+    μ-loop
+    loop-holds
+    next-turn-requires
+    same-length
+    same-length-2
+    same-length-3
+    same-length-4
+    same-length-5
+    same-length-6
+    same-length-7
+    returns
+    sub-insert
+    insert-requires
+    next-round-requires
+    loop-less
+    loop-again
+    same-length-8
+    same-length-9
+    same-length-10
+    same-length-11
+    same-length-12
+    same-length-13
+    same-length-14
+    returns-2)

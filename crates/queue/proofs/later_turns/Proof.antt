@@ -1,0 +1,74 @@
+use borrow.Author.Needs.{needs}
+use mathlib.Core.Path.{_∙_}
+use native.Mathlib.Omega.{arith}
+use Rattle.queue.proofs.later_turns.Statement.{statement}
+use Rattle.queue.proofs.later_turns.Tie as tie
+
+next-turn-requires : tie.Need-next-turn-requires
+next-turn-requires c κs = search needs
+
+same-length : tie.Need-same-length
+same-length c = search needs
+
+same-length-2 : tie.Need-same-length-2
+same-length-2 c = search needs
+
+returns : tie.Need-returns
+returns c = search needs
+
+fill-requires : tie.Need-fill-requires
+fill-requires c κs = search needs
+
+keep-all-requires : tie.Need-keep-all-requires
+keep-all-requires c κs = (c .before .before .before .before .before .before .before .before .before .before .before .before .before .before .before .before .before .before .before .before .before .before .pre .0, (c .before .before .before .before .before .before .before .fill .ensures .0 ∙ c .before .before .before .before .before .before .before .before .before .before .before .before .before .before .before .before .before .before .before .before .before .before .pre .1 .1, λ k h. omega (arith, c .before .before .before .before .before .before .before .fill .ensures .1 k (omega (arith, c .before .before .before .before .before .before .before .fill .ensures .0)))))
+
+lifted-turns-requires : tie.Need-lifted-turns-requires
+lifted-turns-requires c κs = (record { good = c .before .before .before .before .before .before .before .before .before .before .before .before .before .before .before .before .before .before .before .before .before .before .before .before .before .before .before .before .before .before .before .before .before .pre .0; slacks = c .before .before .before .before .before .before .before .before .before .before .keep-all .ensures }, c .before .before .before .before .before .before .before .before .before .before .before .before .before .before .before .before .before .before .before .before .before .before .before .before .before .before .before .before .before .before .before .before .before .pre .1 .0)
+
+same-length-3 : tie.Need-same-length-3
+same-length-3 c = search needs
+
+same-length-4 : tie.Need-same-length-4
+same-length-4 c = search needs
+
+same-length-5 : tie.Need-same-length-5
+same-length-5 c = search needs
+
+same-length-6 : tie.Need-same-length-6
+same-length-6 c = search needs
+
+same-length-7 : tie.Need-same-length-7
+same-length-7 c = search needs
+
+same-length-8 : tie.Need-same-length-8
+same-length-8 c = search needs
+
+same-length-9 : tie.Need-same-length-9
+same-length-9 c = search needs
+
+same-length-10 : tie.Need-same-length-10
+same-length-10 c = search needs
+
+returns-2 : tie.Need-returns-2
+returns-2 c = search needs
+
+pub later-turns-spec : {M : Type 1} → statement M
+later-turns-spec =
+    tie.close
+    (tie.spec
+    next-turn-requires
+    same-length
+    same-length-2
+    returns
+    fill-requires
+    keep-all-requires
+    lifted-turns-requires
+    same-length-3
+    same-length-4
+    same-length-5
+    same-length-6
+    same-length-7
+    same-length-8
+    same-length-9
+    same-length-10
+    returns-2)

@@ -1,0 +1,65 @@
+use borrow.Author.Needs.{needs}
+use Rattle.queue.proofs.Rise.{good-len, waits, lifting-at, search-slacks, turned}
+use mathlib.Core.Path.{sym}
+use native.Mathlib.Omega.{arith}
+use Rattle.queue.proofs.lifted_turn.Statement.{statement}
+use Rattle.queue.proofs.lifted_turn.Tie as tie
+
+lift-requires : tie.Need-lift-requires
+lift-requires c κs = search needs
+
+insert-requires : tie.Need-insert-requires
+insert-requires c κs =
+    let L = c .before .before .before .before .before .before .before .before .before .before .before .before .before .lift .ensures in
+    waits _ _ _ _ _ _ _ _ _ _ (good-len _ _ _ _ _ _ _ (L .good)) (c .before .before .before .before .before .before .before .before .before .before .before .before .before .before .before .before .before .before .before .before .before .before .before .before .before .before .before .before .pre .1 .0) (omega (arith, c .before .before .before .before .before .before .before .before .before .before .before .before .before .before .before .before .before .before .before .before .before .before .before .before .before .before .before .before .pre .1 .1 .0, L .good .shape .lu)) (c .before .before .before .before .before .before .before .before .before .before .before .before .before .before .before .before .before .before .before .before .before .before .before .before .before .before .before .before .pre .1 .1 .1)
+
+tighten-requires : tie.Need-tighten-requires
+tighten-requires c κs =
+    let L = c .before .before .before .before .before .before .before .before .before .before .before .before .before .before .before .before .before .before .before .before .before .before .before .before .before .before .before .before .before .before .lift .ensures in
+    search-slacks _ _ _ _ _ _ _ _ _ (lifting-at _ _ _ _ _ _ _ _ _ (sym (L .good .shape .lu)) L) _ _ _ _ _ _ (c .before .before .before .before .before .before .before .before .before .before .before .before .before .before .before .before .insert .ensures .0) (c .before .before .before .before .before .before .before .before .before .before .before .before .before .before .before .before .insert .ensures .1)
+
+same-length : tie.Need-same-length
+same-length c = search needs
+
+same-length-2 : tie.Need-same-length-2
+same-length-2 c = search needs
+
+same-length-3 : tie.Need-same-length-3
+same-length-3 c = search needs
+
+same-length-4 : tie.Need-same-length-4
+same-length-4 c = search needs
+
+same-length-5 : tie.Need-same-length-5
+same-length-5 c = search needs
+
+same-length-6 : tie.Need-same-length-6
+same-length-6 c = search needs
+
+same-length-7 : tie.Need-same-length-7
+same-length-7 c = search needs
+
+same-length-8 : tie.Need-same-length-8
+same-length-8 c = search needs
+
+returns : tie.Need-returns
+returns c =
+    let L = c .before .before .before .before .before .before .before .before .before .before .before .before .before .before .before .before .before .before .before .before .before .before .before .before .before .before .before .before .before .before .before .before .before .lift .ensures in
+    lifting-at _ _ _ _ _ _ _ _ _ (L .good .shape .lu) (turned _ _ _ _ _ _ _ _ _ (lifting-at _ _ _ _ _ _ _ _ _ (sym (L .good .shape .lu)) L) _ _ _ _ _ _ (c .before .before .before .before .before .before .before .before .before .before .before .before .before .before .before .before .before .before .before .insert .ensures .0) (c .before .before .before .before .before .before .before .before .before .before .before .before .before .before .before .before .before .before .before .insert .ensures .1) _ (c .before .before .tighten .ensures))
+
+pub lifted-turn-spec : {M : Type 1} → statement M
+lifted-turn-spec =
+    tie.close
+    (tie.spec
+    lift-requires
+    insert-requires
+    tighten-requires
+    same-length
+    same-length-2
+    same-length-3
+    same-length-4
+    same-length-5
+    same-length-6
+    same-length-7
+    same-length-8
+    returns)

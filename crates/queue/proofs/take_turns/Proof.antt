@@ -1,0 +1,54 @@
+use borrow.Author.Needs.{needs}
+use Rattle.queue.proofs.Rise.{good-at, good-len}
+use native.Mathlib.Omega.{arith}
+use Rattle.queue.proofs.take_turns.Statement.{statement}
+use Rattle.queue.proofs.take_turns.Tie as tie
+
+first-turns-requires : tie.Need-first-turns-requires
+first-turns-requires c κs = search needs
+
+later-turns-requires : tie.Need-later-turns-requires
+later-turns-requires c κs = (good-len _ _ _ _ _ _ _ (c .before .before .before .before .before .before .before .before .before .before .before .before .before .before .before .before .before .before .before .before .before .before .first-turns .ensures), (record { ld = omega (arith, c .before .before .before .before .before .before .before .before .before .before .before .before .before .dist .given, c .before .before .before .before .before .before .before .before .before .before .before .before .before .before .before .before .before .before .before .before .before .before .before .before .before .before .before .before .before .before .before .before .before .before .before .before .before .before .before .pre .1 .0 .ld); lpar = omega (arith, c .before .before .before .before .before .before .before .before .before .before .before .par .given, c .before .before .before .before .before .before .before .before .before .before .before .before .before .before .before .before .before .before .before .before .before .before .before .before .before .before .before .before .before .before .before .before .before .before .before .before .before .before .before .pre .1 .0 .lpar); ls = omega (arith, c .before .before .before .before .before .before .before .before .before .shut .given, c .before .before .before .before .before .before .before .before .before .before .before .before .before .before .before .before .before .before .before .before .before .before .before .before .before .before .before .before .before .before .before .before .before .before .before .before .before .before .before .pre .1 .0 .ls) }, c .before .before .before .before .before .before .before .before .before .before .before .before .before .before .before .before .before .before .before .before .before .before .before .before .before .before .before .before .before .before .before .before .before .before .before .before .before .before .before .pre .1 .1))
+
+same-length : tie.Need-same-length
+same-length c = search needs
+
+same-length-2 : tie.Need-same-length-2
+same-length-2 c = search needs
+
+same-length-3 : tie.Need-same-length-3
+same-length-3 c = search needs
+
+same-length-4 : tie.Need-same-length-4
+same-length-4 c = search needs
+
+same-length-5 : tie.Need-same-length-5
+same-length-5 c = search needs
+
+same-length-6 : tie.Need-same-length-6
+same-length-6 c = search needs
+
+same-length-7 : tie.Need-same-length-7
+same-length-7 c = search needs
+
+same-length-8 : tie.Need-same-length-8
+same-length-8 c = search needs
+
+returns : tie.Need-returns
+returns c = good-at _ _ _ _ _ _ _ _ (c .before .before .before .before .before .before .before .before .before .before .before .before .before .before .before .before .before .before .before .before .before .before .before .before .before .before .before .before .before .before .before .before .before .before .before .before .before .before .before .first-turns .ensures .shape .lu) (c .before .before .before .before .before .before .before .before .before .before .before .before .before .before .before .before .later-turns .ensures)
+
+pub take-turns-spec : {M : Type 1} → statement M
+take-turns-spec =
+    tie.close
+    (tie.spec
+    first-turns-requires
+    later-turns-requires
+    same-length
+    same-length-2
+    same-length-3
+    same-length-4
+    same-length-5
+    same-length-6
+    same-length-7
+    same-length-8
+    returns)

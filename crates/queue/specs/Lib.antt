@@ -1,0 +1,2 @@
+-- The slacks that let all pairs rise together.
+pub mod State

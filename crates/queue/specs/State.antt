@@ -1,0 +1,26 @@
+-- Slacks that hold for the pairs of the first t tracks; and the lists of a turn.
+use Prim.Native.Nat.{ℕ, _+_, _≤_, _<_}
+use mathlib.Core.Path.{_≡_}
+use mathlib.Core.List.{List}
+use lib.ListN.{length}
+use Rattle.laws.specs.Lists.{at}
+use Rattle.matching.specs.Pairing.{none}
+use Rattle.passes.specs.Cells.{far}
+use Rattle.lifting.specs.Slack.{Small}
+use Rattle.paths.specs.State.{cell, Good}
+
+-- a price of a pair may rise by a free report's slack, and is then no higher than its score
+pub record Slack (cells : List ℕ) (m t : ℕ) (pairing owner prices slack : List ℕ) : Type 0 where
+  pub ls : length slack ≡ m
+  pub small : Small slack
+  pub room : (i j : ℕ) → i < t → j < m → at pairing i < m → at owner j ≡ none → cell cells m i j < far → at prices i + at slack j ≤ cell cells m i j
+
+pub record Lifting (cells : List ℕ) (m n : ℕ) (pairing owner prices discounts slack : List ℕ) : Type 0 where
+  pub good : Good cells m n pairing owner prices discounts
+  pub slacks : Slack cells m n pairing owner prices slack
+
+-- the working lists of a search
+pub record Rooms (m : ℕ) (dist par shut : List ℕ) : Type 0 where
+  pub ld : length dist ≡ m
+  pub lpar : length par ≡ m
+  pub ls : length shut ≡ m

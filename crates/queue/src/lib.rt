@@ -1,0 +1,292 @@
+// The tracks that wait for a report take turns, the most exacting first. Once a search has gone a long way, the prices of all pairs rise
+// together before each turn as far as the free reports allow: then the next search meets a free report before it goes through them.
+use lifting::highest;
+use lifting::keep;
+use lifting::least_slack;
+use lifting::next_turn;
+use lifting::raise_paired;
+use lifting::spend;
+use lifting::tighten;
+use matching::LEFT_OUT;
+use matching::NONE;
+use passes::fill;
+use passes::lesser;
+use paths::insert;
+ghost use mathlib.Core.Path.{_≡_};
+ghost use Prim.Native.Nat.{_+_, _<_, _≤_};
+ghost use lib.ListN.{length};
+ghost use Rattle.laws.specs.Lists.{at};
+ghost use Rattle.matching.specs.Pairing.{none};
+ghost use Rattle.lifting.specs.Slack.{Small};
+ghost use Rattle.paths.specs.State.{Good};
+ghost use Rattle.queue.specs.State.{Slack, Lifting, Rooms};
+
+// A search that closes as many reports is long.
+const LONG: u32 = 20;
+
+// A track in a pair bounds the slack of each report of its row.
+fn keep_row(
+    sheet: &[u32],
+    reports: usize,
+    track: usize,
+    pairing: &[u32],
+    owner: &[u32],
+    prices: &[u32],
+    discounts: &[u32],
+    slack: &mut [u32],
+)
+    requires { ⌜ Good (now sheet) reports (length (now prices)) (now pairing) (now owner) (now prices) (now discounts) × ((track < length (now prices)) × Slack (now sheet) reports track (now pairing) (now owner) (now prices) (now slack)) ⌝ }
+    ensures { λ _. ⌜ Slack (now (sheet .entry)) reports (track + 1) (now (pairing .entry)) (now (owner .entry)) (now (prices .entry)) (now (slack .exit)) ⌝ }
+{
+    if pairing[track] == NONE {
+        return;
+    }
+    let price = prices[track];
+    let a = track * reports;
+    let e = a + reports;
+    keep(&sheet[a..e], price, slack);
+}
+
+fn keep_all(
+    sheet: &[u32],
+    reports: usize,
+    pairing: &[u32],
+    owner: &[u32],
+    prices: &[u32],
+    discounts: &[u32],
+    slack: &mut [u32],
+)
+    requires { ⌜ Good (now sheet) reports (length (now prices)) (now pairing) (now owner) (now prices) (now discounts) × ((length (now slack) ≡ reports) × Small (now slack)) ⌝ }
+    ensures { λ _. ⌜ Slack (now (sheet .entry)) reports (length (now (prices .entry))) (now (pairing .entry)) (now (owner .entry)) (now (prices .entry)) (now (slack .exit)) ⌝ }
+{
+    let mut track: usize = 0;
+    while track < prices.len() {
+        keep_row(
+            sheet,
+            reports,
+            track,
+            pairing,
+            owner,
+            prices,
+            discounts,
+            slack,
+        );
+        track += 1;
+    }
+}
+
+// All pairs rise together, as far as the free reports and the full price allow.
+fn lift(
+    sheet: &[u32],
+    reports: usize,
+    pairing: &[u32],
+    owner: &[u32],
+    prices: &mut [u32],
+    discounts: &mut [u32],
+    slack: &mut [u32],
+)
+    requires { ⌜ Lifting (now sheet) reports (length (now prices)) (now pairing) (now owner) (now prices) (now discounts) (now slack) ⌝ }
+    ensures { λ _. ⌜ Lifting (now (sheet .entry)) reports (length (now (prices .entry))) (now (pairing .entry)) (now (owner .entry)) (now (prices .exit)) (now (discounts .exit)) (now (slack .exit)) ⌝ }
+{
+    let x = lesser(least_slack(owner, slack), LEFT_OUT - highest(prices));
+    if x == 0 {
+        return;
+    }
+    raise_paired(owner, x, discounts);
+    raise_paired(pairing, x, prices);
+    spend(slack, x);
+}
+
+// One turn, after all pairs have risen.
+fn lifted_turn(
+    sheet: &[u32],
+    reports: usize,
+    track: u32,
+    pairing: &mut [u32],
+    owner: &mut [u32],
+    prices: &mut [u32],
+    discounts: &mut [u32],
+    dist: &mut [u32],
+    par: &mut [u32],
+    shut: &mut [u32],
+    slack: &mut [u32],
+)
+    requires { ⌜ Lifting (now sheet) reports (length (now prices)) (now pairing) (now owner) (now prices) (now discounts) (now slack) × (Rooms reports (now dist) (now par) (now shut) × ((track < length (now prices)) × (at (now pairing) track ≡ none))) ⌝ }
+    ensures { λ _. ⌜ Lifting (now (sheet .entry)) reports (length (now (prices .entry))) (now (pairing .exit)) (now (owner .exit)) (now (prices .exit)) (now (discounts .exit)) (now (slack .exit)) ⌝ }
+{
+    lift(sheet, reports, pairing, owner, prices, discounts, slack);
+    let r = insert(
+        sheet,
+        reports,
+        track,
+        pairing,
+        owner,
+        prices,
+        discounts,
+        dist,
+        par,
+        shut,
+    );
+    let d = r.d;
+    tighten(dist, d, slack);
+}
+
+fn lifted_turns(
+    sheet: &[u32],
+    reports: usize,
+    pairing: &mut [u32],
+    owner: &mut [u32],
+    prices: &mut [u32],
+    discounts: &mut [u32],
+    dist: &mut [u32],
+    par: &mut [u32],
+    shut: &mut [u32],
+    slack: &mut [u32],
+)
+    requires { ⌜ Lifting (now sheet) reports (length (now prices)) (now pairing) (now owner) (now prices) (now discounts) (now slack) × Rooms reports (now dist) (now par) (now shut) ⌝ }
+    ensures { λ _. ⌜ Good (now (sheet .entry)) reports (length (now (prices .entry))) (now (pairing .exit)) (now (owner .exit)) (now (prices .exit)) (now (discounts .exit)) ⌝ }
+{
+    let mut k: usize = 0;
+    while k < prices.len() {
+        let t = next_turn(pairing, prices);
+        if t == 0 {
+            return;
+        }
+        lifted_turn(
+            sheet,
+            reports,
+            t - 1,
+            pairing,
+            owner,
+            prices,
+            discounts,
+            dist,
+            par,
+            shut,
+            slack,
+        );
+        k += 1;
+    }
+}
+
+// The rounds end with a long search.
+fn next_round(k: usize, rounds: usize, steps: u32) -> usize
+    requires { ⌜ k < rounds ⌝ }
+    ensures { λ r. ⌜ (k < r) × (r ≤ rounds) ⌝ }
+{
+    if steps >= LONG { rounds } else { k + 1 }
+}
+
+// Turns until none waits, or a search was long.
+fn first_turns(
+    sheet: &[u32],
+    reports: usize,
+    pairing: &mut [u32],
+    owner: &mut [u32],
+    prices: &mut [u32],
+    discounts: &mut [u32],
+    dist: &mut [u32],
+    par: &mut [u32],
+    shut: &mut [u32],
+)
+    requires { ⌜ Good (now sheet) reports (length (now prices)) (now pairing) (now owner) (now prices) (now discounts) × Rooms reports (now dist) (now par) (now shut) ⌝ }
+    ensures { λ _. ⌜ Good (now (sheet .entry)) reports (length (now (prices .entry))) (now (pairing .exit)) (now (owner .exit)) (now (prices .exit)) (now (discounts .exit)) ⌝ }
+{
+    let mut k: usize = 0;
+    while k < prices.len() {
+        let t = next_turn(pairing, prices);
+        if t == 0 {
+            return;
+        }
+        let r = insert(
+            sheet,
+            reports,
+            t - 1,
+            pairing,
+            owner,
+            prices,
+            discounts,
+            dist,
+            par,
+            shut,
+        );
+        let steps = r.steps;
+        k = next_round(k, prices.len(), steps);
+    }
+}
+
+// The turns that are left, if any, with all pairs rising before each.
+fn later_turns(
+    sheet: &[u32],
+    reports: usize,
+    pairing: &mut [u32],
+    owner: &mut [u32],
+    prices: &mut [u32],
+    discounts: &mut [u32],
+    dist: &mut [u32],
+    par: &mut [u32],
+    shut: &mut [u32],
+    slack: &mut [u32],
+)
+    requires { ⌜ Good (now sheet) reports (length (now prices)) (now pairing) (now owner) (now prices) (now discounts) × (Rooms reports (now dist) (now par) (now shut) × (length (now slack) ≡ reports)) ⌝ }
+    ensures { λ _. ⌜ Good (now (sheet .entry)) reports (length (now (prices .entry))) (now (pairing .exit)) (now (owner .exit)) (now (prices .exit)) (now (discounts .exit)) ⌝ }
+{
+    if next_turn(pairing, prices) == 0 {
+        return;
+    }
+    fill(slack, LEFT_OUT);
+    keep_all(sheet, reports, pairing, owner, prices, discounts, slack);
+    lifted_turns(
+        sheet,
+        reports,
+        pairing,
+        owner,
+        prices,
+        discounts,
+        dist,
+        par,
+        shut,
+        slack,
+    );
+}
+
+// Every track that waits takes its turn. Which one is first decides the time, not what is found.
+pub fn take_turns(
+    sheet: &[u32],
+    reports: usize,
+    pairing: &mut [u32],
+    owner: &mut [u32],
+    prices: &mut [u32],
+    discounts: &mut [u32],
+    dist: &mut [u32],
+    par: &mut [u32],
+    shut: &mut [u32],
+    slack: &mut [u32],
+)
+    requires { ⌜ Good (now sheet) reports (length (now prices)) (now pairing) (now owner) (now prices) (now discounts) × (Rooms reports (now dist) (now par) (now shut) × (length (now slack) ≡ reports)) ⌝ }
+    ensures { λ _. ⌜ Good (now (sheet .entry)) reports (length (now (prices .entry))) (now (pairing .exit)) (now (owner .exit)) (now (prices .exit)) (now (discounts .exit)) ⌝ }
+{
+    first_turns(
+        sheet,
+        reports,
+        pairing,
+        owner,
+        prices,
+        discounts,
+        dist,
+        par,
+        shut,
+    );
+    later_turns(
+        sheet,
+        reports,
+        pairing,
+        owner,
+        prices,
+        discounts,
+        dist,
+        par,
+        shut,
+        slack,
+    );
+}
