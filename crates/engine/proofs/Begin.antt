@@ -9,7 +9,7 @@ use lib.Seq.{getD-set-same, getD-set-other}
 use Rattle.laws.specs.Lists.{at}
 use Rattle.matching.specs.Pairing.{none, leftOut}
 use Rattle.passes.specs.Cells.{far, IsCell, mostColumns}
-use Rattle.paths.specs.State.{cell, Shape, Own, Match, Good, Done, Ready, Inserted}
+use Rattle.paths.specs.State.{cell, Shape, Own, Match, Good, Done, Searchable, Inserted}
 use Rattle.engine.specs.State.{Fresh, Contest, Claimed, Visit}
 use Rattle.queue.proofs.Rise.{good-len}
 use Rattle.laws.proofs.Stores.{same-or}
@@ -189,7 +189,7 @@ module _ (cells : List ℕ) (m track : ℕ) (pairing owner prices discounts dist
   pub visit-left : leftOut ≤ at prices x → Inserted cells m (length prices) track pairing prices pairing owner prices discounts
   visit-left l = same (inr (omega (arith, ap (at prices) ex, Vs .good .P .um track (Vs .rr))))
 
-  pub visit-ready : at pairing x ≡ none → Ready cells m track pairing owner prices discounts dist par shut
+  pub visit-ready : at pairing x ≡ none → Searchable cells m track pairing owner prices discounts dist par shut
   visit-ready z = record {
     shape = Vs .good .shape;
     P = Vs .good .P;

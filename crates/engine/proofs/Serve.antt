@@ -18,7 +18,7 @@ use Rattle.matching.proofs.Facts.{cells-ok}
 use Rattle.matching.proofs.Theorems.{not-refused, certificate-zero, beyond-is-not-read}
 use Rattle.passes.specs.Cells.{IsCell}
 use Rattle.engine.specs.declared.Paired.the-variants.{Refused, Done}
-use Rattle.engine.specs.Call.{refusalOf, answerOf, Served, PairsSheet}
+use Rattle.engine.specs.Call.{pairingRefusal, answerOf, SheetPaired, PairsSheet}
 use Rattle.engine.specs.State.{Tested, Certified}
 
 is-cell : (c : ℕ) → cellOk c ≡ true → IsCell c
@@ -26,13 +26,13 @@ is-cell c e =
     ⊎-elim inr (λ d. inl (ltb-true c scoreEnd (or-second (eqb c none) (ltb c scoreEnd) e (ne-eqb c none d)))) (same-or c none)
 
 module _ (n m : ℕ) (s p u v : List ℕ) where
-  pub refuses : (k : ℕ) → k ≡ refusalOf n m s p u v → (k ≡ 0 → ⊥) → PairsSheet n m s p u v p u v (Refused k)
+  pub refuses : (k : ℕ) → k ≡ pairingRefusal n m s p u v → (k ≡ 0 → ⊥) → PairsSheet n m s p u v p u v (Refused k)
   unfolding answerOf
   refuses zero e d = absurd (d refl)
   refuses (suc k) e d =
       record { answered = ap answerOf e; refused = λ z. (refl, (refl, refl)); served = λ z. absurd (d (e ∙ z)) }
 
-  module _ (e : refusalOf n m s p u v ≡ 0) where
+  module _ (e : pairingRefusal n m s p u v ≡ 0) where
     pub sizes : Sizes n m (length s) (length p) (length u) (length v)
     sizes = not-refused n m s (length p) (length u) (length v) e .0
 
@@ -99,7 +99,7 @@ module _ (n m : ℕ) (s p u v : List ℕ) where
           (first n P (drop n p) (C .lp)) (first n U (drop n u) (C .lu)) (first m D (drop m v) (C .lw)))
           ∙ certificate-zero n m own P U D fits (C .shown)
 
-      served : Served n m s p u v (P ++ drop n p) (U ++ drop n u) (D ++ drop m v)
+      served : SheetPaired n m s p u v (P ++ drop n p) (U ++ drop n u) (D ++ drop m v)
       served =
           record {
             accepted = accepted;

@@ -13,7 +13,7 @@ use Rattle.laws.specs.Sums.{Sum}
 use Rattle.laws.proofs.Sums.{sum-same, sum-add, sum-zero, sum-one, row-in}
 use Rattle.laws.proofs.Stores.{le-or-lt, same-or}
 use Rattle.laws.specs.Lists.{at}
-use Rattle.matching.specs.Pairing.{none, scoreEnd, leftOut, Sheet, Admissible, Paired, ValidPairing, scoreOr, total, Certificate, sheetOf}
+use Rattle.matching.specs.Pairing.{none, scoreEnd, leftOut, Sheet, Admissible, HasReport, ValidPairing, scoreOr, total, Certificate, sheetOf}
 use Rattle.paths.specs.State.{cell, Own}
 use Rattle.engine.specs.State.{Solved}
 
@@ -28,10 +28,10 @@ module _ {cells : List ℕ} {m n : ℕ} {pairing owner prices discounts : List �
       (S .good .shape .cs (i * m + j) (omega (arith, row-in i n m (length cells) h (omega (arith, S .good .shape .lC)))))
 
   -- a track's report is its own
-  mine : (i : ℕ) → i < n → Paired (at pairing) i → (at pairing i < m) × (at owner (at pairing i) ≡ i)
+  mine : (i : ℕ) → i < n → HasReport (at pairing) i → (at pairing i < m) × (at owner (at pairing i) ≡ i)
   mine i h p = ⊎-elim (λ z. absurd (p z)) (λ z. (z .0, z .1 .1)) (S .good .M .paired i h)
 
-  own : (i : ℕ) → i < n → Paired (at pairing) i → Own cells m n pairing prices discounts (at pairing i) i
+  own : (i : ℕ) → i < n → HasReport (at pairing) i → Own cells m n pairing prices discounts (at pairing i) i
   own i h p =
       let o = mine i h p in
       ⊎-elim (λ a. absurd (omega (arith, a .0, o .1, S .good .shape .nn))) (λ x. rw (o .1) at x)

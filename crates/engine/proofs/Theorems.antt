@@ -7,11 +7,11 @@ use lib.ListN.{length, drop, length-drop}
 use Rattle.laws.specs.Lists.{at}
 use Rattle.matching.specs.Pairing.{Best, sheetOf}
 use Rattle.matching.specs.Answer.{Fits, checkAnswer}
-use Rattle.matching.proofs.Theorems.{Agree, Accepted, zero-certificate, zero-is-best, best-is-zero, best-agree, zero-says}
+use Rattle.matching.proofs.Theorems.{Agree, AcceptedNumbers, zero-certificate, zero-is-best, best-is-zero, best-agree, zero-says}
 use Rattle.engine.specs.declared.Paired.{Paired}
-use Rattle.engine.specs.Call.{refusalOf, Served, PairsSheet}
+use Rattle.engine.specs.Call.{pairingRefusal, SheetPaired, PairsSheet}
 
-module _ {n m : ℕ} {s p u v p′ u′ v′ : List ℕ} (R : Served n m s p u v p′ u′ v′) where
+module _ {n m : ℕ} {s p u v p′ u′ v′ : List ℕ} (R : SheetPaired n m s p u v p′ u′ v′) where
   -- The pairing that is written is best.
   pub written-is-best : Best (sheetOf n m s) (at p′)
   written-is-best = zero-is-best n m s p′ u′ v′ (R .accepted)
@@ -21,7 +21,7 @@ module _ {n m : ℕ} {s p u v p′ u′ v′ : List ℕ} (R : Served n m s p u v
   accepts-every-best q l b = best-is-zero n m s p′ q u′ v′ (R .accepted) l b
 
   -- All that the check's 0 says, in one: best, as good as every best pairing, fewest misses, no report unused that a missed track could use.
-  pub written-says : Accepted n m s p′ u′ v′
+  pub written-says : AcceptedNumbers n m s p′ u′ v′
   written-says = zero-says n m s p′ u′ v′ (R .accepted)
 
   fits : Fits n m s p′ u′ v′
@@ -31,10 +31,10 @@ module _ {n m : ℕ} {s p u v p′ u′ v′ : List ℕ} (R : Served n m s p u v
 -- entry beyond the first. Which best pairing, and which prices, is all that is left open.
 pub record SameCall (n m : ℕ) (s p u v p₁ u₁ v₁ : List ℕ) (a₁ : Paired) (p₂ u₂ v₂ : List ℕ) (a₂ : Paired) : Type 0 where
   pub answers : a₁ ≡ a₂
-  pub refused : (refusalOf n m s p u v ≡ 0 → ⊥) → (p₁ ≡ p₂) × ((u₁ ≡ u₂) × (v₁ ≡ v₂))
-  pub served : refusalOf n m s p u v ≡ 0 → Agree (sheetOf n m s) (at p₁) (at p₂)
-  pub lengths : refusalOf n m s p u v ≡ 0 → (length p₁ ≡ length p₂) × ((length u₁ ≡ length u₂) × (length v₁ ≡ length v₂))
-  pub beyond : refusalOf n m s p u v ≡ 0 → (drop n p₁ ≡ drop n p₂) × ((drop n u₁ ≡ drop n u₂) × (drop m v₁ ≡ drop m v₂))
+  pub refused : (pairingRefusal n m s p u v ≡ 0 → ⊥) → (p₁ ≡ p₂) × ((u₁ ≡ u₂) × (v₁ ≡ v₂))
+  pub served : pairingRefusal n m s p u v ≡ 0 → Agree (sheetOf n m s) (at p₁) (at p₂)
+  pub lengths : pairingRefusal n m s p u v ≡ 0 → (length p₁ ≡ length p₂) × ((length u₁ ≡ length u₂) × (length v₁ ≡ length v₂))
+  pub beyond : pairingRefusal n m s p u v ≡ 0 → (drop n p₁ ≡ drop n p₂) × ((drop n u₁ ≡ drop n u₂) × (drop m v₁ ≡ drop m v₂))
 
 -- lists of at least n entries that agree beyond them are equally long
 as-long : (n : ℕ) (x y : List ℕ) → n ≤ length x → n ≤ length y → drop n x ≡ drop n y → length x ≡ length y
@@ -59,7 +59,7 @@ same-call n m s p u v p₁ u₁ v₁ a₁ p₂ u₂ v₂ a₂ R Q =
       beyond = beyond;
     }
   where
-    beyond : refusalOf n m s p u v ≡ 0 → (drop n p₁ ≡ drop n p₂) × ((drop n u₁ ≡ drop n u₂) × (drop m v₁ ≡ drop m v₂))
+    beyond : pairingRefusal n m s p u v ≡ 0 → (drop n p₁ ≡ drop n p₂) × ((drop n u₁ ≡ drop n u₂) × (drop m v₁ ≡ drop m v₂))
     beyond e =
         let x = R .served e in
         let y = Q .served e in

@@ -29,7 +29,7 @@ pub record Claimed (cells : List ℕ) (m n track : ℕ) (pairing pairing' owner'
   pub good : Good cells m n pairing' owner' prices' discounts
   pub others : (i : ℕ) → (i ≡ track → ⊥) → at pairing i ≡ none → at pairing' i ≡ none
 
-pub record Room (cells : List ℕ) (m n : ℕ) (pairing owner prices discounts dist par shut slack : List ℕ) : Type 0 where
+pub record WorkRoom (cells : List ℕ) (m n : ℕ) (pairing owner prices discounts dist par shut slack : List ℕ) : Type 0 where
   pub shape : Shape cells m n pairing owner prices discounts
   pub rooms : Rooms m dist par shut
   pub lk : length slack ≡ m

@@ -16,7 +16,7 @@ ghost use Rattle.laws.specs.Lists.{at};
 ghost use Rattle.matching.specs.Pairing.{none};
 ghost use Rattle.engine.specs.Call.{PairsSheet};
 ghost use Rattle.paths.specs.State.{Shape, Good, Inserted};
-ghost use Rattle.engine.specs.State.{Fresh, Contest, Claimed, Room, Visit, Solved, Tested, Certified};
+ghost use Rattle.engine.specs.State.{Fresh, Contest, Claimed, WorkRoom, Visit, Solved, Tested, Certified};
 
 // The engine itself takes this many reports, whatever the public call takes.
 const WIDEST: usize = 200;
@@ -184,7 +184,7 @@ fn match_all(
     shut: &mut [u32],
     slack: &mut [u32],
 )
-    requires { ⌜ Room (now sheet) reports (length (now prices)) (now pairing) (now owner) (now prices) (now discounts) (now dist) (now par) (now shut) (now slack) ⌝ }
+    requires { ⌜ WorkRoom (now sheet) reports (length (now prices)) (now pairing) (now owner) (now prices) (now discounts) (now dist) (now par) (now shut) (now slack) ⌝ }
     ensures { λ _. ⌜ Good (now (sheet .entry)) reports (length (now (prices .entry))) (now (pairing .exit)) (now (owner .exit)) (now (prices .exit)) (now (discounts .exit)) ⌝ }
 {
     clear(sheet, reports, pairing, owner, prices, discounts);
@@ -215,7 +215,7 @@ fn assign(
     shut: &mut [u32],
     slack: &mut [u32],
 )
-    requires { ⌜ Room (now sheet) reports (length (now prices)) (now pairing) (now owner) (now prices) (now discounts) (now dist) (now par) (now shut) (now slack) ⌝ }
+    requires { ⌜ WorkRoom (now sheet) reports (length (now prices)) (now pairing) (now owner) (now prices) (now discounts) (now dist) (now par) (now shut) (now slack) ⌝ }
     ensures { λ _. ⌜ Solved (now (sheet .entry)) reports (length (now (prices .entry))) (now (pairing .exit)) (now (owner .exit)) (now (prices .exit)) (now (discounts .exit)) ⌝ }
 {
     match_all(

@@ -15,15 +15,15 @@ use Rattle.records.specs.Bytes.{speedOf, trackOf, bytesOf, reportOf, reportByte
 use Rattle.scoring.specs.Zone.{rangeOff, azimuthOff, withinSigmas, withinOuter, zoneOf}
 use Rattle.scoring.specs.Position.{reaches, largest, positionOf}
 use Rattle.scoring.specs.Score.{pairPosition, dopplerNear, dopplerAgrees, dopplerOf, updatesAge, ageOf, confidenceTrust, qualityTrust, trustOf, worthOf, scoreOf}
-use Rattle.matching.specs.Pairing.{none, Paired, ValidPairing, Best, sheetOf}
+use Rattle.matching.specs.Pairing.{none, HasReport, ValidPairing, Best, sheetOf}
 use Rattle.matching.specs.Answer.{sizesOk, cellsOk, pairingOk, sheetRefusal}
 use Rattle.matching.proofs.Facts as facts
 use Rattle.matching.proofs.Theorems.{all-are-served, zero-is-best}
-use Rattle.engine.specs.declared.Paired as answers
+use Rattle.engine.specs.declared.HasReport as answers
 use Rattle.engine.specs.Call.{PairsSheet}
 use Rattle.intake.specs.Refusals.{slotBad, reportBad, reportElsewhere, noneOf, dueSlots, demands, numberOf, faultOf, refusalOf}
 use Rattle.scoresheet.specs.Cells.{cellOf, pairCell, rowOf, rowsOf, cellsOf, tracksOf, reportsOf}
-use Rattle.scoresheet.specs.Call.{roomFor, sheetBy, sheetAfter}
+use Rattle.scoresheet.specs.Call.{cellRoom, sheetBy, sheetAfter}
 use Rattle.glider.specs.Nearest.{nearerOf, nearestOf, nearestFor, takenAfter, nearestFirst}
 use Rattle.glider.specs.Scene.{table, batch, scene, cells, allFree, ridge, glider, lost, kept}
 
@@ -34,7 +34,7 @@ cells-are = refl
 
 -- The sheet call gives it, whatever the four cells that were lent held.
 pub scene-cells : (a b c d : ℕ) → sheetAfter scene (a ∷ b ∷ c ∷ d ∷ []) ≡ cells
-unfolding sheetAfter sheetBy roomFor refusalOf faultOf numberOf demands noneOf slotBad reportBad reportElsewhere dueSlots indicesFrom firstIndex tracksOf reportsOf table batch bytesOf reportBytesOf trackOf reportOf speedOf signed16 remainder badSlotField slotDue badTrackField trackRules allowance badReportField reportRules sectorOf
+unfolding sheetAfter sheetBy cellRoom refusalOf faultOf numberOf demands noneOf slotBad reportBad reportElsewhere dueSlots indicesFrom firstIndex tracksOf reportsOf table batch bytesOf reportBytesOf trackOf reportOf speedOf signed16 remainder badSlotField slotDue badTrackField trackRules allowance badReportField reportRules sectorOf
 scene-cells a b c d = rw cells-are
 
 -- Nearest first, the ridge's track takes the glider's return, and the glider's track has none.
@@ -47,13 +47,13 @@ pub kept-is-valid : ValidPairing (sheetOf 2 2 cells) (at kept)
 unfolding pairingOk each
 kept-is-valid = facts.valid (sheetOf 2 2 cells) (at kept) refl
 
-both-have-one : (i : ℕ) → i < 2 → Paired (at kept) i
+both-have-one : (i : ℕ) → i < 2 → HasReport (at kept) i
 both-have-one zero h e = let z : _≡_ {A = ℕ} 0 none = e in omega arith
 both-have-one (suc zero) h e = let z : _≡_ {A = ℕ} 1 none = e in omega arith
 both-have-one (suc (suc i)) h e = omega arith
 
 -- So every best pairing continues both tracks ..
-pub best-serves-both : (P : ℕ → ℕ) → Best (sheetOf 2 2 cells) P → (i : ℕ) → i < 2 → Paired P i
+pub best-serves-both : (P : ℕ → ℕ) → Best (sheetOf 2 2 cells) P → (i : ℕ) → i < 2 → HasReport P i
 best-serves-both P b = all-are-served (sheetOf 2 2 cells) P (at kept) b kept-is-valid both-have-one
 
 one : (n : ℕ) → n < 2 → (n ≡ 0 → ⊥) → n ≡ 1
@@ -80,7 +80,7 @@ best-keeps-the-glider P b =
     (none-else (P 0) l₀ apart, e₁)
 
 -- What the pairing call writes for the scene, into lists of two, is that pairing.
-pub call-keeps-the-glider : (p′ u′ v′ : List ℕ) (answer : answers.Paired) → PairsSheet 2 2 cells (none ∷ none ∷ []) (0 ∷ 0 ∷ []) (0 ∷ 0 ∷ []) p′ u′ v′ answer → length p′ ≡ 2 → p′ ≡ kept
+pub call-keeps-the-glider : (p′ u′ v′ : List ℕ) (answer : answers.HasReport) → PairsSheet 2 2 cells (none ∷ none ∷ []) (0 ∷ 0 ∷ []) (0 ∷ 0 ∷ []) p′ u′ v′ answer → length p′ ≡ 2 → p′ ≡ kept
 unfolding sheetRefusal sizesOk cellsOk holds each
 call-keeps-the-glider p′ u′ v′ answer s l =
     let b = best-keeps-the-glider (at p′) (zero-is-best 2 2 cells p′ u′ v′ (s .served refl .accepted)) in

@@ -10,7 +10,7 @@ use lib.Dec.{eqb, ltb}
 use borrow.Author.Tests.{eq-eqb, ne-eqb, eqb-false, lt-ltb}
 use Rattle.laws.specs.Sums.{Sum}
 use Rattle.laws.proofs.Sums.{sum-le, sum-add, sum-under, sum-less, sum-zero, sum-injective}
-use Rattle.matching.specs.Pairing.{none, scoreEnd, leftOut, mostTracks, Sheet, InRange, Paired, ValidPairing, pairs, misses, scoreOr, scoreSum, total, Best, FairPrices}
+use Rattle.matching.specs.Pairing.{none, scoreEnd, leftOut, mostTracks, Sheet, InRange, HasReport, ValidPairing, pairs, misses, scoreOr, scoreSum, total, Best, FairPrices}
 
 -- the highest scores of all tracks together are less than one track left out
 pub bound : mostTracks * (scoreEnd - 1) < leftOut
@@ -48,7 +48,7 @@ prices-under S Q u v q f =
     track : (i : ℕ) → i < n → (b : Bool) → eqb (Q i) none ≡ b → u i ≤ cond b leftOut (S .cell i (Q i)) + cond (ltb (cond b m (Q i)) m) (v (cond b m (Q i))) 0
     track i l true e = omega (arith, f .price i l)
     track i l false e =
-        let d : Paired Q i = eqb-false (Q i) none e in
+        let d : HasReport Q i = eqb-false (Q i) none e in
         rw (lt-ltb (Q i) m (q .there i l d)) (f .under i (Q i) l (q .there i l d) (q .admissible i l d))
 
 -- ---- totals
@@ -91,11 +91,11 @@ unfolding pairs misses
 pairs-and-misses S P = count-both (S .tracks) (λ i. eqb (P i) none)
 
 -- no track is left out, by the count and one by one
-pub misses-none : (S : Sheet) (P : ℕ → ℕ) → ((i : ℕ) → i < S .tracks → Paired P i) → misses S P ≡ 0
+pub misses-none : (S : Sheet) (P : ℕ → ℕ) → ((i : ℕ) → i < S .tracks → HasReport P i) → misses S P ≡ 0
 unfolding misses
 misses-none S P all = sum-zero (S .tracks) _ (λ i l. rw (ne-eqb (P i) none (all i l)))
 
-pub no-misses : (S : Sheet) (P : ℕ → ℕ) → misses S P ≡ 0 → (i : ℕ) → i < S .tracks → Paired P i
+pub no-misses : (S : Sheet) (P : ℕ → ℕ) → misses S P ≡ 0 → (i : ℕ) → i < S .tracks → HasReport P i
 unfolding misses
 no-misses S P z i l e =
     omega (arith, sum-less (S .tracks) i (λ k. 0) (λ k. cond (eqb (P k) none) 1 0) l (rw (eq-eqb (P i) none e) (lt-suc-self 0)) (λ k h. zero-le))
@@ -112,7 +112,7 @@ scores-few S P r p =
     score : (i : ℕ) → i < S .tracks → (b : Bool) → eqb (P i) none ≡ b → cond b 0 (S .cell i (P i)) ≤ scoreEnd - 1
     score i l true e = zero-le
     score i l false e =
-        let d : Paired P i = eqb-false (P i) none e in
+        let d : HasReport P i = eqb-false (P i) none e in
         omega (arith, r .scores i (P i) l (p .there i l d) (p .admissible i l d))
 
 pub least-best : (S : Sheet) (P : ℕ → ℕ) → InRange S → ValidPairing S P → ((Q : ℕ → ℕ) → ValidPairing S Q → total S P ≤ total S Q) → Best S P

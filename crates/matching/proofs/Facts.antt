@@ -13,7 +13,7 @@ use borrow.Author.Tests.{ltb-true, leb-true, lt-ltb, le-leb, ne-eqb, eqb-false, 
 use Rattle.laws.specs.Tests.{each, refuse}
 use Rattle.laws.proofs.Tests.{and-both, and-left, and-right, or-else, or-second, each-at, each-all, holds-each, all-hold, refuse-none}
 use Rattle.laws.specs.Lists.{at}
-use Rattle.matching.specs.Pairing.{none, scoreEnd, leftOut, mostTracks, Sheet, Admissible, InRange, Paired, ValidPairing, FairPrices, sheetOf}
+use Rattle.matching.specs.Pairing.{none, scoreEnd, leftOut, mostTracks, Sheet, Admissible, InRange, HasReport, ValidPairing, FairPrices, sheetOf}
 use Rattle.matching.specs.Answer.{sizesOk, Sizes, cellOk, cellsOk, entryOk, pairingOk, numbersOk, rowOk, scoresOk, sheetRefusal}
 
 -- ---- 21
@@ -76,23 +76,23 @@ module _ (S : Sheet) (P : ℕ → ℕ) (i : ℕ) where
   abbrev fresh? : Bool
   fresh? = each i (λ k. not (eqb (P k) (P i)))
 
-  entry-rest : entryOk S P i ≡ true → Paired P i → (there? && admissible? && fresh?) ≡ true
+  entry-rest : entryOk S P i ≡ true → HasReport P i → (there? && admissible? && fresh?) ≡ true
   entry-rest e d = or-second _ _ e (ne-eqb (P i) none d)
 
-  pub entry-there : entryOk S P i ≡ true → Paired P i → P i < S .reports
+  pub entry-there : entryOk S P i ≡ true → HasReport P i → P i < S .reports
   entry-there e d = ltb-true _ _ (and-left there? admissible? (and-left (there? && admissible?) fresh? (entry-rest e d)))
 
-  entry-admissible : entryOk S P i ≡ true → Paired P i → Admissible S i (P i)
+  entry-admissible : entryOk S P i ≡ true → HasReport P i → Admissible S i (P i)
   entry-admissible e d =
       eqb-false _ _ (not-true _ (and-right there? admissible? (and-left (there? && admissible?) fresh? (entry-rest e d))))
 
-  entry-fresh : entryOk S P i ≡ true → Paired P i → (k : ℕ) → k < i → P k ≡ P i → ⊥
+  entry-fresh : entryOk S P i ≡ true → HasReport P i → (k : ℕ) → k < i → P k ≡ P i → ⊥
   entry-fresh e d k l = eqb-false (P k) (P i) (not-true _ (each-at _ i k (and-right (there? && admissible?) fresh? (entry-rest e d)) l))
 
-  entry-ok : (Paired P i → P i < S .reports) → (Paired P i → Admissible S i (P i)) → (Paired P i → (k : ℕ) → k < i → P k ≡ P i → ⊥) → entryOk S P i ≡ true
+  entry-ok : (HasReport P i → P i < S .reports) → (HasReport P i → Admissible S i (P i)) → (HasReport P i → (k : ℕ) → k < i → P k ≡ P i → ⊥) → entryOk S P i ≡ true
   entry-ok h a f =
       or-else (eqb (P i) none) _
-      (λ e. let d : Paired P i = eqb-false (P i) none e in
+      (λ e. let d : HasReport P i = eqb-false (P i) none e in
       and-both {a = there? && admissible?}
       (and-both {a = there?} (lt-ltb _ _ (h d)) (rw (ne-eqb (S .cell i (P i)) none (a d))))
       (each-all _ i (λ k l. rw (ne-eqb (P k) (P i) (f d k l)))))

@@ -10,7 +10,7 @@ use Rattle.laws.specs.Lists.{at, firstIndex}
 use Rattle.laws.specs.Tests.{refuse}
 use borrow.Author.Tests.{eq-eqb, eqb-true}
 use Rattle.laws.proofs.Tests.{refuse-none}
-use Rattle.matching.specs.Pairing.{none, scoreEnd, leftOut, mostTracks, Sheet, Admissible, InRange, Paired, ValidPairing, pairs, misses, scoreSum, total, Best, Certificate, Alike, sheetOf, BestList}
+use Rattle.matching.specs.Pairing.{none, scoreEnd, leftOut, mostTracks, Sheet, Admissible, InRange, HasReport, ValidPairing, pairs, misses, scoreSum, total, Best, Certificate, Alike, sheetOf, BestList}
 use Rattle.matching.specs.Answer.{Sizes, Fits, sizesOk, cellsOk, pairingOk, numbersOk, scoresOk, totalsOk, sheetRefusal, checkAnswer}
 use Rattle.matching.proofs.Duality as duality
 use Rattle.matching.proofs.Facts as facts
@@ -72,7 +72,7 @@ fewest-misses S P Q b q =
     omega (arith, duality.at-most (b .most Q q), duality.pairs-and-misses S P, duality.pairs-and-misses S Q)
 
 -- Where all tracks can be served at once, a best pairing serves them all.
-pub all-are-served : (S : Sheet) (P Q : ℕ → ℕ) → Best S P → ValidPairing S Q → ((i : ℕ) → i < S .tracks → Paired Q i) → (i : ℕ) → i < S .tracks → Paired P i
+pub all-are-served : (S : Sheet) (P Q : ℕ → ℕ) → Best S P → ValidPairing S Q → ((i : ℕ) → i < S .tracks → HasReport Q i) → (i : ℕ) → i < S .tracks → HasReport P i
 all-are-served S P Q b q all =
     duality.no-misses S P (omega (arith, fewest-misses S P Q b q, duality.misses-none S Q all))
 
@@ -153,7 +153,7 @@ best-is-zero n m s p q u v e l b =
     certificate-zero n m s q u v z (best-is-accepted (sheetOf n m s) (at p) (at q) (at u) (at v) (c .1) b)
 
 -- All that the answer 0 says of a pairing p of n tracks with m reports.
-pub record Accepted (n m : ℕ) (s p u v : List ℕ) : Type 0 where
+pub record AcceptedNumbers (n m : ℕ) (s p u v : List ℕ) : Type 0 where
   -- no list of report numbers does better
   pub best : BestList (sheetOf n m s) p
   -- every list that does as well has as many pairs and the same sum of scores, and is accepted with the same numbers
@@ -162,11 +162,11 @@ pub record Accepted (n m : ℕ) (s p u v : List ℕ) : Type 0 where
   -- no valid pairing leaves fewer tracks out
   pub fewest : (q : List ℕ) → ValidPairing (sheetOf n m s) (at q) → misses (sheetOf n m s) (at p) ≤ misses (sheetOf n m s) (at q)
   -- where all tracks can be served at once, all are
-  pub served : (q : List ℕ) → ValidPairing (sheetOf n m s) (at q) → ((i : ℕ) → i < n → Paired (at q) i) → (i : ℕ) → i < n → Paired (at p) i
+  pub served : (q : List ℕ) → ValidPairing (sheetOf n m s) (at q) → ((i : ℕ) → i < n → HasReport (at q) i) → (i : ℕ) → i < n → HasReport (at p) i
   -- an admissible report of a track left out is some track's
   pub used : (i j : ℕ) → i < n → at p i ≡ none → j < m → Admissible (sheetOf n m s) i j → (k : ℕ) × ((k < n) × (at p k ≡ j))
 
-pub zero-says : (n m : ℕ) (s p u v : List ℕ) → checkAnswer n m s p u v ≡ 0 → Accepted n m s p u v
+pub zero-says : (n m : ℕ) (s p u v : List ℕ) → checkAnswer n m s p u v ≡ 0 → AcceptedNumbers n m s p u v
 zero-says n m s p u v e =
     let S : Sheet = sheetOf n m s in
     let b : Best S (at p) = zero-is-best n m s p u v e in

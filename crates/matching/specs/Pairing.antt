@@ -46,14 +46,14 @@ pub record InRange (S : Sheet) : Type 0 where
 
 -- ---- a pairing P: the number of the report that track i has, or none
 
-abbrev pub Paired : (ℕ → ℕ) → ℕ → Type 0
-Paired P i = P i ≡ none → ⊥
+abbrev pub HasReport : (ℕ → ℕ) → ℕ → Type 0
+HasReport P i = P i ≡ none → ⊥
 
 -- each report that P names is there, its pair is admissible, and no report is named twice
 pub record ValidPairing (S : Sheet) (P : ℕ → ℕ) : Type 0 where
-  pub there : (i : ℕ) → i < S .tracks → Paired P i → P i < S .reports
-  pub admissible : (i : ℕ) → i < S .tracks → Paired P i → Admissible S i (P i)
-  pub once : (i k : ℕ) → i < S .tracks → k < S .tracks → Paired P i → P i ≡ P k → i ≡ k
+  pub there : (i : ℕ) → i < S .tracks → HasReport P i → P i < S .reports
+  pub admissible : (i : ℕ) → i < S .tracks → HasReport P i → Admissible S i (P i)
+  pub once : (i k : ℕ) → i < S .tracks → k < S .tracks → HasReport P i → P i ≡ P k → i ≡ k
 
 -- how many tracks have a report
 unfoldable pub pairs : Sheet → (ℕ → ℕ) → ℕ

@@ -7,7 +7,7 @@ ghost use lib.ListN.{length};
 ghost use Rattle.laws.specs.Sums.{Sum};
 ghost use Rattle.laws.specs.Tests.{each};
 ghost use Rattle.laws.specs.Lists.{at};
-ghost use Rattle.matching.specs.Pairing.{leftOut, Paired, scoreOr, total, sheetOf};
+ghost use Rattle.matching.specs.Pairing.{leftOut, HasReport, scoreOr, total, sheetOf};
 ghost use Rattle.matching.specs.Answer.{sizesOk, Sizes, cellOk, entryOk, pairingOk, numbersOk, pairOk, scoresOk, totalsOk, sheetRefusal, checkAnswer};
 
 // In a cell: the pair is not admissible. In a pairing: the track is left out.
@@ -250,7 +250,7 @@ fn sum_of(n: usize, numbers: &[u32]) -> u64
 
 // What track i counts in the total: its score, or LEFT_OUT.
 fn cost(reports: usize, sheet: &[u32], pairing: &[u32], i: usize) -> u64
-    requires { ⌜ (i < length (now pairing)) × ((i * reports + reports ≤ length (now sheet)) × (Paired (at (now pairing)) i → at (now pairing) i < reports)) ⌝ }
+    requires { ⌜ (i < length (now pairing)) × ((i * reports + reports ≤ length (now sheet)) × (HasReport (at (now pairing)) i → at (now pairing) i < reports)) ⌝ }
     ensures { λ r. ⌜ (r ≡ scoreOr leftOut (sheetOf 0 reports (now (sheet .entry))) (at (now (pairing .entry))) i) × (r < 4294967296) ⌝ }
 {
     let x = pairing[i];

@@ -9,7 +9,7 @@ use lib.Seq.{getD-set-same, getD-set-other}
 use Rattle.laws.specs.Lists.{at}
 use Rattle.matching.specs.Pairing.{none, leftOut}
 use Rattle.passes.specs.Cells.{far, FromLabels, Nearest}
-use Rattle.paths.specs.State.{Own, Link, Tree, Scanned, Fit, Ready, Ended}
+use Rattle.paths.specs.State.{Own, Link, Tree, Scanned, Scannable, Searchable, Ended}
 use Rattle.laws.proofs.Stores.{le-or-lt}
 use Rattle.laws.proofs.Stores.{same-or}
 use Rattle.paths.proofs.Advance.{advance, zeros-all}
@@ -22,8 +22,8 @@ pub record Front (lo m : ℕ) (shut : List ℕ) : Type 0 where
 pub front-none : (m : ℕ) (shut : List ℕ) → Front 0 m shut
 front-none m shut = record { upto = omega arith; closed = λ e h. absurd (omega arith) }
 
-module _ {cells : List ℕ} {m track : ℕ} {pairing owner prices discounts d0 p0 s0 : List ℕ} (R : Ready cells m track pairing owner prices discounts d0 p0 s0) where
-  pub fit-root : (d1 : List ℕ) → length d1 ≡ m → ((k : ℕ) → k < m → at d1 k ≡ leftOut) → Fit cells m 0 track 0 prices discounts d1 p0
+module _ {cells : List ℕ} {m track : ℕ} {pairing owner prices discounts d0 p0 s0 : List ℕ} (R : Searchable cells m track pairing owner prices discounts d0 p0 s0) where
+  pub fit-root : (d1 : List ℕ) → length d1 ≡ m → ((k : ℕ) → k < m → at d1 k ≡ leftOut) → Scannable cells m 0 track 0 prices discounts d1 p0
   fit-root d1 l f = record {
     lom = omega arith;
     before = λ e h. absurd (omega arith);
@@ -137,7 +137,7 @@ module _ {cells : List ℕ} {m track : ℕ} {pairing owner prices discounts d0 p
                 (le-or-lt lo e);
           }
 
-          pub fit-row : (at owner j ≡ none → ⊥) → Fit cells m r (at owner j) (at dist j) prices discounts dist par
+          pub fit-row : (at owner j ≡ none → ⊥) → Scannable cells m r (at owner j) (at dist j) prices discounts dist par
           fit-row ne = record {
             lom = few-r;
             before = λ e h. low-now e (omega (arith, few-r)) (front-more .closed e h);

@@ -9,11 +9,11 @@ use lib.Seq.{getD-set-same, getD-set-other}
 use Rattle.laws.specs.Lists.{at}
 use Rattle.matching.specs.Pairing.{none, leftOut}
 use Rattle.passes.specs.Cells.{Paid, far, RowsUp, ColsUp}
-use Rattle.paths.specs.State.{cell, Shape, Prices, Own, Match, Closed, Link, Tight, Ready, Ended, Turn, Settled, Done, Inserted, Reached}
+use Rattle.paths.specs.State.{cell, Shape, Prices, Own, Match, Closed, Link, Tight, Searchable, Ended, Finishable, Settled, Done, Inserted, Reached}
 use Rattle.laws.proofs.Stores.{le-or-lt}
 use Rattle.laws.proofs.Stores.{same-or}
 
-module _ (cells : List ℕ) (m track : ℕ) (pairing owner prices discounts d0 p0 s0 : List ℕ) (R : Ready cells m track pairing owner prices discounts d0 p0 s0)
+module _ (cells : List ℕ) (m track : ℕ) (pairing owner prices discounts d0 p0 s0 : List ℕ) (R : Searchable cells m track pairing owner prices discounts d0 p0 s0)
     (D report leaver : ℕ) (dist par shut : List ℕ) (E : Ended cells m (length prices) pairing owner prices discounts track D report leaver dist par shut)
     (prices1 discounts1 : List ℕ) (RU : RowsUp pairing dist D prices prices1) (CU : ColsUp dist D discounts discounts1) where
   abbrev n : ℕ
@@ -114,7 +114,7 @@ module _ (cells : List ℕ) (m track : ℕ) (pairing owner prices discounts d0 p
         (λ a. inr (a .0, (a .1 .0, ⊎-elim (λ z. absurd (omega arith)) (λ b. b) (a .1 .1 .0)))) (x .how);
   }
 
-  pub turned : Turn cells m n prices2 discounts1 track par shut report leaver pairing owner
+  pub turned : Finishable cells m n prices2 discounts1 track par shut report leaver pairing owner
   turned = record {
     shape = shape2;
     lpar = E .lpar;
@@ -133,7 +133,7 @@ module _ (cells : List ℕ) (m track : ℕ) (pairing owner prices discounts d0 p
         (E .end);
   }
 
-  pub turned-at : (x : ℕ) → x ≡ track → Turn cells m n (set prices1 x (at prices1 x + D)) discounts1 track par shut report leaver pairing owner
+  pub turned-at : (x : ℕ) → x ≡ track → Finishable cells m n (set prices1 x (at prices1 x + D)) discounts1 track par shut report leaver pairing owner
   turned-at x e = rw e turned
 
   inserted-r : (pairing' owner' : List ℕ) → Settled cells m n prices2 discounts1 track pairing owner pairing' owner' → Inserted cells m n track pairing prices pairing' owner' prices2 discounts1
@@ -182,8 +182,8 @@ module _ (cells : List ℕ) (m track : ℕ) (pairing owner prices discounts d0 p
   pub u1-small : (x : ℕ) → x ≡ track → at prices1 x + D ≤ leftOut
   u1-small x e = omega (arith, ap (at prices1) e, u1-r, E .dr)
 
-  pub turned-len : (x : ℕ) → x ≡ track → Turn cells m (length (set prices1 x (at prices1 x + D))) (set prices1 x (at prices1 x + D)) discounts1 track par shut report leaver pairing owner
-  turned-len x e = subst (λ (k : ℕ). Turn cells m k (set prices1 x (at prices1 x + D)) discounts1 track par shut report leaver pairing owner) (sym (len2 x)) (turned-at x e)
+  pub turned-len : (x : ℕ) → x ≡ track → Finishable cells m (length (set prices1 x (at prices1 x + D))) (set prices1 x (at prices1 x + D)) discounts1 track par shut report leaver pairing owner
+  turned-len x e = subst (λ (k : ℕ). Finishable cells m k (set prices1 x (at prices1 x + D)) discounts1 track par shut report leaver pairing owner) (sym (len2 x)) (turned-at x e)
 
   pub inserted-len : (x : ℕ) → x ≡ track → (pairing' owner' : List ℕ) → Settled cells m (length (set prices1 x (at prices1 x + D))) (set prices1 x (at prices1 x + D)) discounts1 track pairing owner pairing' owner'
       → Inserted cells m n track pairing prices pairing' owner' (set prices1 x (at prices1 x + D)) discounts1
@@ -191,7 +191,7 @@ module _ (cells : List ℕ) (m track : ℕ) (pairing owner prices discounts d0 p
       inserted x e pairing' owner' (subst (λ (k : ℕ). Settled cells m k (set prices1 x (at prices1 x + D)) discounts1 track pairing owner pairing' owner') (len2 x) S)
 
 -- a report nearer than D is its owner's
-pub paid : (cells : List ℕ) (m track : ℕ) (pairing owner prices discounts d0 p0 s0 : List ℕ) → Ready cells m track pairing owner prices discounts d0 p0 s0
+pub paid : (cells : List ℕ) (m track : ℕ) (pairing owner prices discounts d0 p0 s0 : List ℕ) → Searchable cells m track pairing owner prices discounts d0 p0 s0
     → (D report leaver : ℕ) (dist par shut : List ℕ) → Ended cells m (length prices) pairing owner prices discounts track D report leaver dist par shut → Paid pairing owner dist prices D
 paid cells m track pairing owner prices discounts d0 p0 s0 R D report leaver dist par shut E = record {
   lo = omega (arith, R .shape .lo, E .ld);

@@ -12,7 +12,7 @@ use Rattle.laws.proofs.Parts.{part, part-length, part-at, put-before, put-in}
 use Rattle.laws.proofs.Stores.{le-or-lt}
 use Rattle.laws.specs.Lists.{at}
 use Rattle.passes.specs.Cells.{Step, Fair, Relaxed}
-use Rattle.paths.specs.State.{cell, Fit, Scanned}
+use Rattle.paths.specs.State.{cell, Scannable, Scanned}
 
 -- row i, and row i from lo on
 abbrev pub row : List ℕ → ℕ → ℕ → List ℕ
@@ -41,7 +41,7 @@ module _ (cells : List ℕ) (m n i : ℕ) (h : i < n) (l : length cells ≡ n * 
   pub from-at : (lo k : ℕ) → k < m - lo → at (row-from cells m i lo) k ≡ cell cells m i (lo + k)
   from-at lo k g = part-at cells (i * m + lo) (i * m + m) k (omega arith) ∙ ap (at cells) (omega arith)
 
-module _ (cells : List ℕ) (m lo i d : ℕ) (prices discounts dist par : List ℕ) (F : Fit cells m lo i d prices discounts dist par) where
+module _ (cells : List ℕ) (m lo i d : ℕ) (prices discounts dist par : List ℕ) (F : Scannable cells m lo i d prices discounts dist par) where
   abbrev n : ℕ
   n = length prices
 

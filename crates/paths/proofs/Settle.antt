@@ -8,12 +8,12 @@ use lib.ListN.{set}
 use Rattle.laws.specs.Lists.{at}
 use Rattle.matching.specs.Pairing.{none, leftOut}
 use Rattle.passes.specs.Cells.{far}
-use Rattle.paths.specs.State.{Flips, Flipped, Turn, Settled}
+use Rattle.paths.specs.State.{Flips, Flipped, Finishable, Settled}
 use Rattle.laws.proofs.Stores.{same-or}
 use Rattle.paths.proofs.Swap.{gone, stays, vacated, shape1, chain-set}
 
 module _ (cells : List ℕ) (m n : ℕ) (prices discounts : List ℕ) (track : ℕ) (par shut : List ℕ) (report leaver : ℕ) (pairing owner : List ℕ)
-    (T : Turn cells m n prices discounts track par shut report leaver pairing owner) where
+    (T : Finishable cells m n prices discounts track par shut report leaver pairing owner) where
   module _ (cn : report ≡ none → ⊥) where
     at-col : (report < m) × ((at owner report ≡ none) × (far ≤ at shut report))
     at-col = ⊎-elim (λ x. x) (λ x. absurd (cn (x .0))) (T .end)

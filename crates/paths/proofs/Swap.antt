@@ -9,7 +9,7 @@ use lib.Seq.{getD-set-same, getD-set-other}
 use Rattle.laws.specs.Lists.{at}
 use Rattle.matching.specs.Pairing.{none}
 use Rattle.passes.specs.Cells.{far}
-use Rattle.paths.specs.State.{cell, Shape, Own, Match, Tight, Chain, Holed, Whole, Moved, Flips}
+use Rattle.paths.specs.State.{cell, Shape, Own, Match, Tight, Chain, Holed, Unbroken, Moved, Flips}
 use Rattle.laws.proofs.Stores.{same-or}
 
 module _ (cells : List ℕ) (m n : ℕ) (prices discounts pairing owner : List ℕ) (S : Shape cells m n pairing owner prices discounts) (h : ℕ) (hm : h < m)
@@ -150,7 +150,7 @@ module _ (cells : List ℕ) (m n : ℕ) (prices discounts : List ℕ) (track : �
         (λ d. F .moved .free j g (sym (getD-set-other owner h j i 0 d) ∙ z)) (same-or j h);
   }
 
-  state' : Holed cells m n prices discounts track par shut pairF (set owner h i) (at pairing i) ⊎ ((at pairing i ≡ none) × Whole cells m n prices discounts track pairF (set owner h i))
+  state' : Holed cells m n prices discounts track par shut pairF (set owner h i) (at pairing i) ⊎ ((at pairing i ≡ none) × Unbroken cells m n prices discounts track pairF (set owner h i))
   state' = ⊎-elim
       (λ q. let z : at pairing i ≡ none = ap (at pairing) q ∙ holed .rp in
       inr (z, record { M = (rw z at match'); rp = omega (arith, ap (at pairF) q, pairF-i, holed .hm) }))

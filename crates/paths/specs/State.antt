@@ -93,7 +93,7 @@ pub record Scanned (cells : List ℕ) (m : ℕ) (discounts : List ℕ) (d ui i :
   pub steps : (e : ℕ) → e < m → Step (cell cells m i e) (at discounts e) d ui i (at dist e) (at par e) (at dist' e) (at par' e)
 
 -- what scan asks: the reports before lo are closed
-pub record Fit (cells : List ℕ) (m lo i d : ℕ) (prices discounts dist par : List ℕ) : Type 0 where
+pub record Scannable (cells : List ℕ) (m lo i d : ℕ) (prices discounts dist par : List ℕ) : Type 0 where
   pub lom : lo ≤ m
   pub before : (e : ℕ) → e < lo → at dist e ≤ d
   pub ii : i < length prices
@@ -107,7 +107,7 @@ pub record Fit (cells : List ℕ) (m lo i d : ℕ) (prices discounts dist par : 
   pub cap : (j : ℕ) → j < m → at dist j ≤ leftOut
 
 -- what search asks: a track that is in no pair
-pub record Ready (cells : List ℕ) (m track : ℕ) (pairing owner prices discounts dist par shut : List ℕ) : Type 0 where
+pub record Searchable (cells : List ℕ) (m track : ℕ) (pairing owner prices discounts dist par shut : List ℕ) : Type 0 where
   pub shape : Shape cells m (length prices) pairing owner prices discounts
   pub P : Prices cells m (length prices) prices discounts
   pub M : Match cells m (length prices) pairing owner prices discounts none
@@ -151,7 +151,7 @@ pub record Holed (cells : List ℕ) (m n : ℕ) (prices discounts : List ℕ) (t
   pub rp : at pairing track ≡ none
 
 -- the hole is filled
-pub record Whole (cells : List ℕ) (m n : ℕ) (prices discounts : List ℕ) (track : ℕ) (pairing owner : List ℕ) : Type 0 where
+pub record Unbroken (cells : List ℕ) (m n : ℕ) (prices discounts : List ℕ) (track : ℕ) (pairing owner : List ℕ) : Type 0 where
   pub M : Match cells m n pairing owner prices discounts none
   pub rp : at pairing track < m
 
@@ -167,12 +167,12 @@ pub record Flips (cells : List ℕ) (m n : ℕ) (prices discounts : List ℕ) (t
   pub ls : length shut ≡ m
   pub rr : track < n
   pub kept : (i : ℕ) → i < n → at pairing0 i < m → at pairing i < m
-  pub state : Holed cells m n prices discounts track par shut pairing owner h ⊎ ((h ≡ none) × Whole cells m n prices discounts track pairing owner)
+  pub state : Holed cells m n prices discounts track par shut pairing owner h ⊎ ((h ≡ none) × Unbroken cells m n prices discounts track pairing owner)
 
 pub record Flipped (cells : List ℕ) (m n : ℕ) (prices discounts : List ℕ) (track : ℕ) (pairing owner pairing' owner' : List ℕ) : Type 0 where
   pub shape : Shape cells m n pairing' owner' prices discounts
   pub moved : Moved m n track pairing owner pairing' owner'
-  pub whole : Whole cells m n prices discounts track pairing' owner'
+  pub whole : Unbroken cells m n prices discounts track pairing' owner'
   pub kept : (i : ℕ) → i < n → at pairing i < m → at pairing' i < m
 
 pub record Good (cells : List ℕ) (m n : ℕ) (pairing owner prices discounts : List ℕ) : Type 0 where
@@ -181,7 +181,7 @@ pub record Good (cells : List ℕ) (m n : ℕ) (pairing owner prices discounts :
   pub M : Match cells m n pairing owner prices discounts none
 
 -- the pairing is to be changed along the chain that ends in a free report, or in a track that is left out
-pub record Turn (cells : List ℕ) (m n : ℕ) (prices discounts : List ℕ) (track : ℕ) (par shut : List ℕ) (report leaver : ℕ) (pairing owner : List ℕ) : Type 0 where
+pub record Finishable (cells : List ℕ) (m n : ℕ) (prices discounts : List ℕ) (track : ℕ) (par shut : List ℕ) (report leaver : ℕ) (pairing owner : List ℕ) : Type 0 where
   pub shape : Shape cells m n pairing owner prices discounts
   pub lpar : length par ≡ m
   pub ls : length shut ≡ m

@@ -13,7 +13,7 @@ use passes::raise_rows;
 use passes::relax;
 ghost use lib.ListN.{length};
 ghost use Rattle.laws.specs.Lists.{at};
-ghost use Rattle.paths.specs.State.{Scanned, Fit, Ready, Ended, Flips, Flipped, Turn, Settled, Inserted, Reached};
+ghost use Rattle.paths.specs.State.{Scanned, Scannable, Searchable, Ended, Flips, Flipped, Finishable, Settled, Inserted, Reached};
 
 // How a search ended: at which label, with a free report or with a track that is left out, and after how many closed reports.
 struct Ending {
@@ -41,7 +41,7 @@ fn scan(
     dist: &mut [u32],
     par: &mut [u32],
 )
-    requires { ⌜ Fit (now sheet) reports lo i d (now prices) (now discounts) (now dist) (now par) ⌝ }
+    requires { ⌜ Scannable (now sheet) reports lo i d (now prices) (now discounts) (now dist) (now par) ⌝ }
     ensures { λ r. ⌜ Scanned (now (sheet .entry)) reports (now (discounts .entry)) d (at (now (prices .entry)) i) i (now (dist .entry)) (now (par .entry)) (now (dist .exit)) (now (par .exit)) ⌝ }
 {
     let ii = idx(i);
@@ -73,7 +73,7 @@ fn search(
     par: &mut [u32],
     shut: &mut [u32],
 ) -> Ending
-    requires { ⌜ Ready (now sheet) reports track (now pairing) (now owner) (now prices) (now discounts) (now dist) (now par) (now shut) ⌝ }
+    requires { ⌜ Searchable (now sheet) reports track (now pairing) (now owner) (now prices) (now discounts) (now dist) (now par) (now shut) ⌝ }
     ensures { λ f. ⌜ Ended (now (sheet .entry)) reports (length (now (prices .entry))) (now (pairing .entry)) (now (owner .entry)) (now (prices .entry)) (now (discounts .entry)) track (f .d) (f .report) (f .leaver) (now (dist .exit)) (now (par .exit)) (now (shut .exit)) ⌝ }
 {
     fill(dist, LEFT_OUT);
@@ -154,7 +154,7 @@ fn finish(
     pairing: &mut [u32],
     owner: &mut [u32],
 )
-    requires { ⌜ Turn (now sheet) reports (length (now prices)) (now prices) (now discounts) track (now par) (now shut) report leaver (now pairing) (now owner) ⌝ }
+    requires { ⌜ Finishable (now sheet) reports (length (now prices)) (now prices) (now discounts) track (now par) (now shut) report leaver (now pairing) (now owner) ⌝ }
     ensures { λ _. ⌜ Settled (now (sheet .entry)) reports (length (now (prices .entry))) (now (prices .entry)) (now (discounts .entry)) track (now (pairing .entry)) (now (owner .entry)) (now (pairing .exit)) (now (owner .exit)) ⌝ }
 {
     if report != NONE {
@@ -205,7 +205,7 @@ pub fn insert(
     par: &mut [u32],
     shut: &mut [u32],
 ) -> Reach
-    requires { ⌜ Ready (now sheet) reports track (now pairing) (now owner) (now prices) (now discounts) (now dist) (now par) (now shut) ⌝ }
+    requires { ⌜ Searchable (now sheet) reports track (now pairing) (now owner) (now prices) (now discounts) (now dist) (now par) (now shut) ⌝ }
     ensures { λ r. ⌜ Inserted (now (sheet .entry)) reports (length (now (prices .entry))) track (now (pairing .entry)) (now (prices .entry)) (now (pairing .exit)) (now (owner .exit)) (now (prices .exit)) (now (discounts .exit)) × Reached (now (sheet .entry)) reports (length (now (prices .entry))) (now (pairing .entry)) (now (owner .entry)) (now (prices .entry)) (now (dist .exit)) (r .d) (now (pairing .exit)) (now (owner .exit)) (now (prices .exit)) ⌝ }
 {
     let f = search(

@@ -7,7 +7,7 @@ use lib.ListN.{take, drop, take-append-drop}
 use Rattle.laws.proofs.Stores.{same-or}
 use Rattle.matching.specs.Answer.{checkAnswer}
 use Rattle.matching.proofs.Theorems as check
-use Rattle.engine.specs.Call.{refusalOf}
+use Rattle.engine.specs.Call.{pairingRefusal}
 use Rattle.engine.proofs.Theorems.{same-call}
 use Rattle.intake.specs.Refusals.{Input}
 use Rattle.sector.specs.declared.Served.{Served}
@@ -37,7 +37,7 @@ pub record SameLists (n m : ℕ) (p₁ u₁ v₁ p₂ u₂ v₂ : List ℕ) : Ty
   pub prices : take n u₁ ≡ take n u₂
   pub discounts : take m v₁ ≡ take m v₂
 
-pub one-pairing : {n m : ℕ} {cells p u v p₁ u₁ v₁ p₂ u₂ v₂ : List ℕ} {n₁ n₂ : ℕ} → PairsForC n m cells p u v p₁ u₁ v₁ n₁ → PairsForC n m cells p u v p₂ u₂ v₂ n₂ → (refusalOf n m cells p u v ≡ 0 → SameLists n m p₁ u₁ v₁ p₂ u₂ v₂) → (n₁ ≡ n₂) × ((p₁ ≡ p₂) × ((u₁ ≡ u₂) × (v₁ ≡ v₂)))
+pub one-pairing : {n m : ℕ} {cells p u v p₁ u₁ v₁ p₂ u₂ v₂ : List ℕ} {n₁ n₂ : ℕ} → PairsForC n m cells p u v p₁ u₁ v₁ n₁ → PairsForC n m cells p u v p₂ u₂ v₂ n₂ → (pairingRefusal n m cells p u v ≡ 0 → SameLists n m p₁ u₁ v₁ p₂ u₂ v₂) → (n₁ ≡ n₂) × ((p₁ ≡ p₂) × ((u₁ ≡ u₂) × (v₁ ≡ v₂)))
 one-pairing {n} {m} {cells} {p} {u} {v} {p₁} {u₁} {v₁} {p₂} {u₂} {v₂} R Q same =
     let w = same-call n m cells p u v p₁ u₁ v₁ (R .answer) p₂ u₂ v₂ (Q .answer) (R .promised) (Q .promised) in (
       R .numbered ∙ ap pairedNumber (w .answers) ∙ sym (Q .numbered),
@@ -47,7 +47,7 @@ one-pairing {n} {m} {cells} {p} {u} {v} {p₁} {u₁} {v₁} {p₂} {u₂} {v₂
           let b = w .beyond z in
           (whole n p₁ p₂ (s .pairing) (b .0), (whole n u₁ u₂ (s .prices) (b .1 .0), whole m v₁ v₂ (s .discounts) (b .1 .1))))
           (w .refused)
-          (same-or (refusalOf n m cells p u v) 0),
+          (same-or (pairingRefusal n m cells p u v) 0),
     )
 
 -- plot_check_pairing: nothing is left open.

@@ -13,7 +13,7 @@ use Rattle.sector.specs.Serve.{Lent, ServesSector}
 use Rattle.scoresheet.specs.declared.Sheeted.{Sheeted}
 use Rattle.scoresheet.specs.declared.Sheeted.the-variants as sheeted
 use Rattle.scoresheet.specs.Cells.{tracksOf, reportsOf}
-use Rattle.scoresheet.specs.Call.{roomFor, sheetedBy, sheetedOf, sheetAfter}
+use Rattle.scoresheet.specs.Call.{cellRoom, sheetedBy, sheetedOf, sheetAfter}
 use Rattle.engine.specs.declared.Paired.{Paired}
 use Rattle.engine.specs.declared.Paired.the-variants as paired
 use Rattle.engine.specs.Call.{PairsSheet}
@@ -55,7 +55,7 @@ small-by (suc k) i r n m e = let z : suc k ≡ 0 = ap sheetedNumber e in absurd 
 pub small : (i : Input) (sheet : List ℕ) {a : Sheeted} {n m : ℕ} → a ≡ sheetedOf i sheet → a ≡ sheeted.Sheet n m → (n ≤ mostDue) × (m ≤ mostBatch)
 unfolding sheetedOf
 small i sheet {a} {n} {m} p e =
-    small-by (refusalOf i (roomFor i sheet)) i (λ z. ready i (not-refused i (roomFor i sheet) z .0)) n m (sym p ∙ e)
+    small-by (refusalOf i (cellRoom i sheet)) i (λ z. ready i (not-refused i (cellRoom i sheet) z .0)) n m (sym p ∙ e)
 
 pub sheet-refused : {i : Input} {sheet sheet′ size : List ℕ} {a : Sheeted} {k : ℕ} → a ≡ sheetedOf i sheet → sheet′ ≡ sheetAfter i sheet → a ≡ sheeted.Refused k → ScoresForC i sheet sheet′ size size k
 unfolding sheetedNumber sheetedSize

@@ -17,8 +17,8 @@ use Rattle.engine.specs.declared.Paired.the-variants as paired
 use Rattle.engine.specs.Call.{PairsSheet}
 
 -- the site sheet, from its two bytes
-abbrev pub siteOf : (rangeSigma azimuthSigma : ℕ) → Site
-siteOf r a = record { «range_sigma» = r; «azimuth_sigma» = a }
+abbrev pub siteFrom : (rangeSigma azimuthSigma : ℕ) → Site
+siteFrom r a = record { «range_sigma» = r; «azimuth_sigma» = a }
 
 -- ---- the sector call
 

@@ -4,7 +4,7 @@ ghost use mathlib.Core.Path.{_≡_};
 ghost use Rattle.intake.specs.Refusals.{input};
 ghost use Rattle.sector.specs.Serve.{lent};
 ghost use Rattle.matching.specs.Answer.{checkAnswer};
-ghost use Rattle.plotunit.specs.Calls.{siteOf, countList, ServesForC, ScoresForC, PairsForC};
+ghost use Rattle.plotunit.specs.Calls.{siteFrom, countList, ServesForC, ScoresForC, PairsForC};
 use engine::Paired;
 use records::Site;
 use scoresheet::Sheeted;
@@ -42,7 +42,7 @@ pub extern "C" fn plot_serve_sector(
     prices: &mut [u32],
     counts: &mut [u32; 7],
 ) -> u8
-    ensures { λ r. ⌜ ServesForC (input (now (table .entry)) (now (sector .entry)) (siteOf «range_sigma» «azimuth_sigma») (now (batch .entry)))
+    ensures { λ r. ⌜ ServesForC (input (now (table .entry)) (now (sector .entry)) (siteFrom «range_sigma» «azimuth_sigma») (now (batch .entry)))
         (lent (now (table .entry)) (now (sector .entry)) (now (fates .entry)) (now (slots .entry)) (now (shown .entry)) (now (discounts .entry)) (now (prices .entry)))
         (lent (now (table .exit)) (now (sector .exit)) (now (fates .exit)) (now (slots .exit)) (now (shown .exit)) (now (discounts .exit)) (now (prices .exit)))
         (now (counts .entry)) (now (counts .exit)) r ⌝ }
@@ -81,7 +81,7 @@ pub extern "C" fn plot_score_sheet(
     sheet: &mut [u32],
     size: &mut [u32; 2],
 ) -> u8
-    ensures { λ r. ⌜ ScoresForC (input (now (table .entry)) sector (siteOf «range_sigma» «azimuth_sigma») (now (batch .entry)))
+    ensures { λ r. ⌜ ScoresForC (input (now (table .entry)) sector (siteFrom «range_sigma» «azimuth_sigma») (now (batch .entry)))
         (now (sheet .entry)) (now (sheet .exit)) (now (size .entry)) (now (size .exit)) r ⌝ }
 {
     let site = Site {

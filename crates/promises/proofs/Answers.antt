@@ -9,7 +9,7 @@ use lib.Seq.{ext-getD}
 use Rattle.laws.proofs.Stores.{same-or}
 use Rattle.records.specs.Bytes.{slotDue}
 use Rattle.laws.specs.Lists.{at}
-use Rattle.matching.specs.Pairing.{none, Paired, ValidPairing}
+use Rattle.matching.specs.Pairing.{none, HasReport, ValidPairing}
 use Rattle.intake.specs.Refusals.{Input}
 use Rattle.scoresheet.specs.Cells.{tracksOf, reportsOf, sectorSheet}
 use Rattle.scoresheet.proofs.Due.{due-lies, due-is-due}
@@ -49,7 +49,7 @@ answers-are-told i l l′ counts s j here = rw (s .left) (told-after i (s .chose
 
 module _ (i : Input) (c : Chosen) (h : Choice i c) where
   -- A due track that is paired: its report is told paired, in the track's slot, and is shown where the track had two updates or more.
-  pub paired-track-is-served : (n : ℕ) → n < tracksOf i → Paired (at (c .pairing)) n → TrackServed i (c .pairing) n
+  pub paired-track-is-served : (n : ℕ) → n < tracksOf i → HasReport (at (c .pairing)) n → TrackServed i (c .pairing) n
   unfolding sectorSheet
   paired-track-is-served n l p =
       let here : at (c .pairing) n < reportsOf i = valid-pairing i c h .there n l p in
@@ -63,9 +63,9 @@ module _ (i : Input) (c : Chosen) (h : Choice i c) where
 
 -- The glider: where some one-to-one pairing of admissible pairs serves every due track, the call continues every due track: the answer says so,
 -- shows each that had two updates or more, and the table holds the track as its report updates it.
-pub glider : (i : Input) (l l′ : Lent) (counts : Counts) → ServedWith i l l′ counts → (Q : ℕ → ℕ) → ValidPairing (sectorSheet i) Q → ((n : ℕ) → n < tracksOf i → Paired Q n) → (n : ℕ) → n < tracksOf i → SeenServed i l′ n
+pub glider : (i : Input) (l l′ : Lent) (counts : Counts) → ServedWith i l l′ counts → (Q : ℕ → ℕ) → ValidPairing (sectorSheet i) Q → ((n : ℕ) → n < tracksOf i → HasReport Q n) → (n : ℕ) → n < tracksOf i → SeenServed i l′ n
 glider i l l′ counts s Q q all n b =
-    let p : Paired (at (s .chosen .pairing)) n = every-due-track-is-paired i (s .chosen) (s .choice) Q q all n b in
+    let p : HasReport (at (s .chosen .pairing)) n = every-due-track-is-paired i (s .chosen) (s .choice) Q q all n b in
     let w : TrackServed i (s .chosen .pairing) n = paired-track-is-served i (s .chosen) (s .choice) n b p in
     let a : AnswersTold i (s .chosen) l′ (w .report) = answers-are-told i l l′ counts s (w .report) (w .here) in
     record {
@@ -100,7 +100,7 @@ other-price-is-zero i l l′ counts s k h d =
 
 module _ (i : Input) (l l′ : Lent) (n m : Counts) (s : ServedWith i l l′ n) (t : ServedWith i l l′ m) where
   -- a due track that one of two pairings with the same answer serves has the same report in the other
-  same-report : (k : ℕ) → k < tracksOf i → Paired (at (t .chosen .pairing)) k → at (s .chosen .pairing) k ≡ at (t .chosen .pairing) k
+  same-report : (k : ℕ) → k < tracksOf i → HasReport (at (t .chosen .pairing)) k → at (s .chosen .pairing) k ≡ at (t .chosen .pairing) k
   same-report k b p =
       let w : TrackServed i (t .chosen .pairing) k = paired-track-is-served i (t .chosen) (t .choice) k b p in
       let a : AnswersTold i (s .chosen) l′ (w .report) = answers-are-told i l l′ n s (w .report) (w .here) in

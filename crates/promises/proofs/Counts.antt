@@ -13,7 +13,7 @@ use Rattle.laws.specs.Sums.{Sum}
 use Rattle.laws.proofs.Stores.{same-or}
 use Rattle.laws.proofs.Sums.{sum-le, sum-injective}
 use Rattle.laws.specs.Lists.{at}
-use Rattle.matching.specs.Pairing.{none, Paired, pairs}
+use Rattle.matching.specs.Pairing.{none, HasReport, pairs}
 use Rattle.intake.specs.Refusals.{Input}
 use Rattle.scoresheet.specs.Cells.{tracksOf, reportsOf, sectorSheet}
 use Rattle.walk.specs.Table.{settledTable}
@@ -68,7 +68,7 @@ module _ (i : Input) (c : Chosen) (h : Choice i c) where
       none-here : P n ≡ none → has n ≤ cond (ltb (P n) (reportsOf i)) (told (P n)) 0
       none-here e = rw (eq-eqb (P n) none e) (omega arith)
 
-      some-here : Paired P n → has n ≤ cond (ltb (P n) (reportsOf i)) (told (P n)) 0
+      some-here : HasReport P n → has n ≤ cond (ltb (P n) (reportsOf i)) (told (P n)) 0
       some-here p =
           let r : P n < reportsOf i = valid-pairing i c h .there n l p in
           let o : ownerOf (c .pairing) (P n) < length (c .pairing) = owner-there (c .pairing) (P n) n (rw (h .number-each) l) refl in

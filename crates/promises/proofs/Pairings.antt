@@ -10,7 +10,7 @@ use Rattle.scoring.specs.declared.Scored.the-variants.{NotAdmissible, Score}
 use Rattle.scoring.specs.Score.{scoreOf}
 use Rattle.scoring.proofs.ScoreLaws.{score-below}
 use Rattle.laws.specs.Lists.{at}
-use Rattle.matching.specs.Pairing.{none, scoreEnd, Admissible, Paired, ValidPairing, misses, Best}
+use Rattle.matching.specs.Pairing.{none, scoreEnd, Admissible, HasReport, ValidPairing, misses, Best}
 use Rattle.matching.specs.Answer.{Fits, checkAnswer}
 use Rattle.matching.proofs.Theorems.{zero-certificate, best-is-zero, fewest-misses, all-are-served, no-report-unused}
 use Rattle.intake.specs.Refusals.{Input}
@@ -60,12 +60,12 @@ module _ (i : Input) (c : Chosen) (h : Choice i c) where
   no-free-report-for-a-missed-track n j l m r a = no-report-unused (sectorSheet i) (at (c .pairing)) (best-of-the-sector i c h) few-reports n j l m r a
 
   -- Where some one-to-one pairing of admissible pairs serves every due track, every due track is paired.
-  pub every-due-track-is-paired : (Q : ℕ → ℕ) → ValidPairing (sectorSheet i) Q → ((n : ℕ) → n < tracksOf i → Paired Q n) → (n : ℕ) → n < tracksOf i → Paired (at (c .pairing)) n
+  pub every-due-track-is-paired : (Q : ℕ → ℕ) → ValidPairing (sectorSheet i) Q → ((n : ℕ) → n < tracksOf i → HasReport Q n) → (n : ℕ) → n < tracksOf i → HasReport (at (c .pairing)) n
   unfolding sectorSheet
   every-due-track-is-paired Q q all = all-are-served (sectorSheet i) (at (c .pairing)) Q (best-of-the-sector i c h) q all
 
   -- One to one: two due tracks with the same report are the same track.
-  pub one-to-one : (n k : ℕ) → n < tracksOf i → k < tracksOf i → Paired (at (c .pairing)) n → at (c .pairing) n ≡ at (c .pairing) k → n ≡ k
+  pub one-to-one : (n k : ℕ) → n < tracksOf i → k < tracksOf i → HasReport (at (c .pairing)) n → at (c .pairing) n ≡ at (c .pairing) k → n ≡ k
   unfolding sectorSheet
   one-to-one n k a b p e = valid-pairing .once n k a b p e
 

@@ -19,7 +19,7 @@ use Rattle.records.specs.Fields.{isWeak}
 use Rattle.records.specs.Bytes.{trackOf, bytesOf, reportOf, slotDue}
 use Rattle.settling.specs.Settle.{updatedOf, updatesMost}
 use Rattle.settling.proofs.HandedOn.{updated-updates}
-use Rattle.matching.specs.Pairing.{none, Paired}
+use Rattle.matching.specs.Pairing.{none, HasReport}
 use Rattle.intake.specs.Refusals.{Input, dueSlots}
 use Rattle.scoresheet.specs.Cells.{tracksOf, reportsOf}
 use Rattle.scoresheet.proofs.Due.{due-lies, due-is-due}
@@ -33,7 +33,7 @@ use Rattle.fates.proofs.Telling.{fateOut, slotOut}
 use Rattle.fates.proofs.Starts.{tableAt}
 use Rattle.fates.proofs.Answers.{shown-at}
 use Rattle.sector.specs.Serve.{Chosen, Choice, reportsIn, fatesIn}
-use Rattle.promises.specs.Words.{fateAt, slotAt, shownAt, slotOfDue, dueTrack, updatesBefore, PairedWithOld, ToldPaired, ShownExactlyWhen}
+use Rattle.promises.specs.Words.{fateAt, toldSlotOf, shownAt, slotOfDue, dueTrack, updatesBefore, PairedWithOld, ToldPaired, ShownExactlyWhen}
 use Rattle.promises.proofs.Pairings.{few-reports, one-to-one}
 
 -- ---- due tracks have slots of their own
@@ -68,7 +68,7 @@ rank-is i n l =
     due-slots-differ i (rankOf (i .table) (slotOfDue i n)) n (w .0) l (w .1)
 
 -- the slot of the n-th due track after pairing, where it has a report
-pub settled-due : (i : Input) (P : List ℕ) (n : ℕ) → n < tracksOf i → Paired (at P) n → getD (settledTable i P) (slotOfDue i n) [] ≡ bytesOf (updatedOf (dueTrack i n) (reportOf (getD (i .batch) (at P n) [])) (i .sector))
+pub settled-due : (i : Input) (P : List ℕ) (n : ℕ) → n < tracksOf i → HasReport (at P) n → getD (settledTable i P) (slotOfDue i n) [] ≡ bytesOf (updatedOf (dueTrack i n) (reportOf (getD (i .batch) (at P n) [])) (i .sector))
 unfolding tracksOf settledSlot pairedSlot
 settled-due i P n l p =
     settled-at i P (slotOfDue i n) (due-lies i n l)
@@ -110,7 +110,7 @@ module _ (i : Input) (P : List ℕ) (j : ℕ) (here : j < reportsOf i) where
   unfolding fatesIn fatesOf reportNumbers reportsOf
   fate-is = told-at (afterReport (reportsIn i) P) (fateOut (reportsIn i) P) (length (i .batch)) (λ k. k) (settledTable i P) j 0 here
 
-  pub slot-is : slotAt i P j ≡ toldOf (reportsIn i) P j (tableAt (reportsIn i) P j (settledTable i P)) .slot
+  pub slot-is : toldSlotOf i P j ≡ toldOf (reportsIn i) P j (tableAt (reportsIn i) P j (settledTable i P)) .slot
   unfolding slotsOf reportNumbers reportsOf
   slot-is = told-at (afterReport (reportsIn i) P) (slotOut (reportsIn i) P) (length (i .batch)) (λ k. k) (settledTable i P) j 0 here
 
@@ -123,7 +123,7 @@ module _ (i : Input) (P : List ℕ) (j : ℕ) (here : j < reportsOf i) where
       ⊎-elim (λ m. absurd (told-unpaired (reportsIn i) P j _ m (sym fate-is ∙ e))) (λ m. m) (le-or-lt (length P) (ownerOf P j))
 
   -- and the slot is that of the due track at that place
-  pub paired-slot : ownerOf P j < length P → slotAt i P j ≡ slotOfDue i (ownerOf P j)
+  pub paired-slot : ownerOf P j < length P → toldSlotOf i P j ≡ slotOfDue i (ownerOf P j)
   unfolding slotOf
   paired-slot l = slot-is ∙ told-paired (reportsIn i) P j _ l .1
 
@@ -136,7 +136,7 @@ module _ (i : Input) (c : Chosen) (h : Choice i c) (j : ℕ) (here : j < reports
   pub owner-due : owner < length (c .pairing) → owner < tracksOf i
   owner-due l = omega (arith, h .number-each)
 
-  pub named-is-paired : (n : ℕ) → at (c .pairing) n ≡ j → Paired (at (c .pairing)) n
+  pub named-is-paired : (n : ℕ) → at (c .pairing) n ≡ j → HasReport (at (c .pairing)) n
   named-is-paired n e z = omega (arith, few-reports i c h)
 
   -- the place that names report j is the only one
@@ -162,7 +162,7 @@ module _ (i : Input) (c : Chosen) (h : Choice i c) (j : ℕ) (here : j < reports
           rw e at (owner-has (c .pairing) j o)
 
 -- One to one, in the answer's words: two reports that are told paired with the same slot are the same report.
-pub one-slot-one-report : (i : Input) (c : Chosen) → Choice i c → (j k : ℕ) → j < reportsOf i → k < reportsOf i → fateAt i (c .pairing) j ≡ paired → fateAt i (c .pairing) k ≡ paired → slotAt i (c .pairing) j ≡ slotAt i (c .pairing) k → j ≡ k
+pub one-slot-one-report : (i : Input) (c : Chosen) → Choice i c → (j k : ℕ) → j < reportsOf i → k < reportsOf i → fateAt i (c .pairing) j ≡ paired → fateAt i (c .pairing) k ≡ paired → toldSlotOf i (c .pairing) j ≡ toldSlotOf i (c .pairing) k → j ≡ k
 one-slot-one-report i c h j k a b f g e =
     let oj : ownerOf (c .pairing) j < length (c .pairing) = paired-only i (c .pairing) j a f in
     let ok : ownerOf (c .pairing) k < length (c .pairing) = paired-only i (c .pairing) k b g in

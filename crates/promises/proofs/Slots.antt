@@ -21,7 +21,7 @@ use Rattle.records.specs.Bytes.{markAt, bytesOf, reportOf}
 use Rattle.records.proofs.Checked.{free-slot-not-due}
 use Rattle.settling.specs.Settle.{updatedOf, coastedOf, startedOf}
 use Rattle.settling.proofs.HandedOn.{coasted-keeps, coasted-drops}
-use Rattle.matching.specs.Pairing.{none, Paired}
+use Rattle.matching.specs.Pairing.{none, HasReport}
 use Rattle.intake.specs.Refusals.{Input}
 use Rattle.scoresheet.specs.Cells.{tracksOf, reportsOf}
 use Rattle.scoresheet.proofs.Due.{due-lies, due-is-due}
@@ -32,7 +32,7 @@ use Rattle.fates.specs.Fates.{started, Handed, isFree, freeSlot, ownerOf, toldP
 use Rattle.fates.proofs.Starts.{report-keeps, tableAt, length-at, start-elsewhere, held-at, held-slots-kept}
 use Rattle.sector.specs.declared.Counts.{Counts}
 use Rattle.sector.specs.Serve.{Lent, reportsIn, afterOf, ServedWith}
-use Rattle.promises.specs.Words.{fateAt, slotAt, slotOfDue, dueTrack, StartedThere, LeftOrStarted}
+use Rattle.promises.specs.Words.{fateAt, toldSlotOf, slotOfDue, dueTrack, StartedThere, LeftOrStarted}
 use Rattle.promises.proofs.Reports.{rank-is, settled-due, fate-is, slot-is, updated-held}
 
 -- ---- as pairing leaves a slot
@@ -182,7 +182,7 @@ module _ (i : Input) (l l′ : Lent) (counts : Counts) (s : ServedWith i l l′ 
   kept k f = left-slot k ∙ held-slots-kept (reportsIn i) P (settledTable i P) k f
 
   -- A due track with a pair: its slot holds it, updated by its report.
-  pub paired-slot-after : (n : ℕ) → n < tracksOf i → Paired (at P) n → getD (l′ .table) (slotOfDue i n) [] ≡ bytesOf (updatedOf (dueTrack i n) (reportOf (getD (i .batch) (at P n) [])) (i .sector))
+  pub paired-slot-after : (n : ℕ) → n < tracksOf i → HasReport (at P) n → getD (l′ .table) (slotOfDue i n) [] ≡ bytesOf (updatedOf (dueTrack i n) (reportOf (getD (i .batch) (at P n) [])) (i .sector))
   paired-slot-after n h p =
       let e = settled-due i P n h p in
       kept (slotOfDue i n) (rw e (updated-held _ _ _)) ∙ e
@@ -211,7 +211,7 @@ module _ (i : Input) (l l′ : Lent) (counts : Counts) (s : ServedWith i l l′ 
       ⊎-elim (λ e. e) (λ w. absurd (clash (eq-eqb _ free a) (rw (w .1 .holds) (new-held (reportsIn i) (w .0))))) (free-slot-after k h m)
 
   -- A report that is told started: the track in its slot is its own.
-  pub started-slot-after : (j : ℕ) → j < reportsOf i → fateAt i P j ≡ started → StartedThere i P j (slotAt i P j) (getD (l′ .table) (slotAt i P j) [])
+  pub started-slot-after : (j : ℕ) → j < reportsOf i → fateAt i P j ≡ started → StartedThere i P j (toldSlotOf i P j) (getD (l′ .table) (toldSlotOf i P j) [])
   started-slot-after j b e = ⊎-elim starts (λ w. absurd (w .fate (sym (fate-is i P j b) ∙ e))) (starts-or-not (reportsIn i) P j found)
     where
       found : List (List ℕ)
@@ -224,9 +224,9 @@ module _ (i : Input) (l l′ : Lent) (counts : Counts) (s : ServedWith i l l′ 
       stays : Start (reportsIn i) P j found → getD (startedTable (reportsIn i) P (settledTable i P)) (freeSlot found) [] ≡ newTrack (reportsIn i) j
       stays w = start-stays (reportsIn i) P (settledTable i P) j (in-batch i j b) w
 
-      starts : Start (reportsIn i) P j found → StartedThere i P j (slotAt i P j) (getD (l′ .table) (slotAt i P j) [])
+      starts : Start (reportsIn i) P j found → StartedThere i P j (toldSlotOf i P j) (getD (l′ .table) (toldSlotOf i P j) [])
       starts w =
-          let k : slotAt i P j ≡ freeSlot found = slot-is i P j b ∙ w .slot in
+          let k : toldSlotOf i P j ≡ freeSlot found = slot-is i P j b ∙ w .slot in
           record {
             here = b;
             lies = rw (k, ← settled-length i P, ← length-at (reportsIn i) P j (settledTable i P)) (w .room);

@@ -21,7 +21,7 @@ use Rattle.intake.specs.Refusals.{Input, faultOf, refusalOf, Ready, noRoom}
 use Rattle.intake.proofs.Readiness.{ready, not-refused, refused-by-fault, refused-by-room}
 use Rattle.scoresheet.specs.declared.Sheeted.the-variants as sheet-call
 use Rattle.scoresheet.specs.Cells.{cellsOf, tracksOf, reportsOf, sectorSheet}
-use Rattle.scoresheet.specs.Call.{roomFor, sheetedBy, sheetBy, sheetedOf, sheetAfter}
+use Rattle.scoresheet.specs.Call.{cellRoom, sheetedBy, sheetBy, sheetedOf, sheetAfter}
 use Rattle.scoresheet.proofs.SheetLaws.{cells-length, sheet-in-range}
 use Rattle.sector.specs.declared.Served.{Served}
 use Rattle.sector.specs.declared.Served.the-variants.{Refused, Done}
@@ -74,7 +74,7 @@ given-by (suc k) i sheet n m r e = let z : _≡_ {A = ℕ} 0 1 = cc in absurd (o
 
 given : (i : Input) (sheet : List ℕ) (n m : ℕ) → sheetedOf i sheet ≡ sheet-call.Sheet n m → SheetGiven i sheet (sheetAfter i sheet) n m
 unfolding sheetedOf sheetAfter
-given i sheet n m e = given-by (refusalOf i (roomFor i sheet)) i sheet n m (λ z. ready i (not-refused i (roomFor i sheet) z .0)) e
+given i sheet n m e = given-by (refusalOf i (cellRoom i sheet)) i sheet n m (λ z. ready i (not-refused i (cellRoom i sheet) z .0)) e
 
 -- ---- the pairing call on that sheet
 

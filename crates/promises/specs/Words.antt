@@ -29,8 +29,8 @@ use Rattle.sector.specs.Serve.{Lent, sectorRefusal, Chosen, Choice, reportsIn, 
 abbrev pub fateAt : Input → List ℕ → ℕ → ℕ
 fateAt i P j = getD (fatesIn i P) j 0
 
-abbrev pub slotAt : Input → List ℕ → ℕ → ℕ
-slotAt i P j = getD (slotsOf (reportsIn i) P (settledTable i P)) j 0
+abbrev pub toldSlotOf : Input → List ℕ → ℕ → ℕ
+toldSlotOf i P j = getD (slotsOf (reportsIn i) P (settledTable i P)) j 0
 
 abbrev pub shownAt : Input → List ℕ → ℕ → ℕ
 shownAt i P j = getD (shownOf (reportsIn i) P (settledTable i P)) j 0
@@ -56,7 +56,7 @@ pub record PairedWithOld (i : Input) (P : List ℕ) (j : ℕ) : Type 0 where
 -- report j is told that it is paired, in the slot of the n-th due track
 pub record ToldPaired (i : Input) (P : List ℕ) (j n : ℕ) : Type 0 where
   pub fate : fateAt i P j ≡ paired
-  pub slot : slotAt i P j ≡ slotOfDue i n
+  pub slot : toldSlotOf i P j ≡ slotOfDue i n
 
 -- the shown mark of report j is 1 exactly when it is so paired, else 0
 pub record ShownExactlyWhen (i : Input) (P : List ℕ) (j : ℕ) : Type 0 where
@@ -94,7 +94,7 @@ pub record StartedThere (i : Input) (P : List ℕ) (j k : ℕ) (slot : List ℕ)
   pub here : j < reportsOf i
   pub lies : k < length (i .table)
   pub fate : fateAt i P j ≡ started
-  pub told : slotAt i P j ≡ k
+  pub told : toldSlotOf i P j ≡ k
   pub found-free : isFree (getD (settledTable i P) k []) ≡ true
   pub holds : slot ≡ bytesOf (startedOf (reportOf (getD (i .batch) j [])) (i .sector))
 
@@ -105,7 +105,7 @@ LeftOrStarted i P k left slot = (slot ≡ left) ⊎ ((j : ℕ) × StartedThere i
 -- the first entries of the answer's lists are what report j is told, and its discount
 pub record AnswersTold (i : Input) (c : Chosen) (l′ : Lent) (j : ℕ) : Type 0 where
   pub fate : getD (l′ .fates) j 0 ≡ fateAt i (c .pairing) j
-  pub slot : getD (l′ .slots) j 0 ≡ slotAt i (c .pairing) j
+  pub slot : getD (l′ .slots) j 0 ≡ toldSlotOf i (c .pairing) j
   pub shown : getD (l′ .shown) j 0 ≡ shownAt i (c .pairing) j
   pub discount : getD (l′ .discounts) j 0 ≡ at (c .discounts) j
 

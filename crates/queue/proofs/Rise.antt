@@ -10,7 +10,7 @@ use Rattle.laws.specs.Lists.{at}
 use Rattle.matching.specs.Pairing.{none, leftOut}
 use Rattle.passes.specs.Cells.{far}
 use Rattle.lifting.specs.Slack.{Row, Kept, Raised, Spent, Slacks, Tightened}
-use Rattle.paths.specs.State.{cell, Own, Good, Inserted, Reached, Ready}
+use Rattle.paths.specs.State.{cell, Own, Good, Inserted, Reached, Searchable}
 use Rattle.paths.proofs.Rows.{row, row-length, row-at, row-end}
 use Rattle.queue.specs.State.{Slack, Lifting, Rooms}
 
@@ -148,7 +148,7 @@ module _ (cells : List ℕ) (m n track : ℕ) (pairing owner prices discounts sl
 
 -- a track that waits, with the lists of a search
 pub waits : (cells : List ℕ) (m track : ℕ) (pairing owner prices discounts dist par shut : List ℕ) → Good cells m (length prices) pairing owner prices discounts → Rooms m dist par shut
-    → track < length prices → at pairing track ≡ none → Ready cells m track pairing owner prices discounts dist par shut
+    → track < length prices → at pairing track ≡ none → Searchable cells m track pairing owner prices discounts dist par shut
 waits cells m track pairing owner prices discounts dist par shut G L h z =
     record { shape = G .shape; P = G .P; M = G .M; rr = h; rp = z; ld = L .ld; lpar = L .lpar; ls = L .ls }
 

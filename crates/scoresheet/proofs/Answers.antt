@@ -14,7 +14,7 @@ use Rattle.scoresheet.specs.declared.Sheeted.{Sheeted}
 use Rattle.scoresheet.specs.declared.Sheeted.the-variants.{Refused, Sheet}
 use Rattle.scoresheet.specs.Cells.{cellsOf, tracksOf, reportsOf}
 use Rattle.scoresheet.specs.Ready.{RowsReady}
-use Rattle.scoresheet.specs.Call.{roomFor, sheetedBy, sheetBy, sheetedOf, sheetAfter}
+use Rattle.scoresheet.specs.Call.{cellRoom, sheetedBy, sheetBy, sheetedOf, sheetAfter}
 
 -- the answer r, and the sheet after the call
 abbrev pub Answers : Input → List ℕ → Sheeted → List ℕ → Type 0
@@ -29,26 +29,26 @@ unfolding sheetedBy sheetBy
 refused-with zero i sheet h = absurd (h refl)
 refused-with (suc k) i sheet h = (refl, refl)
 
-refused : (k : ℕ) (i : Input) (sheet : List ℕ) → refusalOf i (roomFor i sheet) ≡ k → (k ≡ 0 → ⊥) → Answers i sheet (Refused k) sheet
+refused : (k : ℕ) (i : Input) (sheet : List ℕ) → refusalOf i (cellRoom i sheet) ≡ k → (k ≡ 0 → ⊥) → Answers i sheet (Refused k) sheet
 unfolding sheetedOf sheetAfter
 refused k i sheet e h = rw e (refused-with k i sheet h)
 
 -- refused by one of 1 to 8
 pub by-fault : (k : ℕ) (i : Input) (sheet : List ℕ) → k ≡ faultOf i → (k ≡ 0 → ⊥) → Answers i sheet (Refused k) sheet
-by-fault k i sheet e h = refused k i sheet (refused-by-fault i (roomFor i sheet) (λ z. h (e ∙ z)) ∙ sym e) h
+by-fault k i sheet e h = refused k i sheet (refused-by-fault i (cellRoom i sheet) (λ z. h (e ∙ z)) ∙ sym e) h
 
 -- refused by 9
 by-room : (i : Input) (sheet : List ℕ) → faultOf i ≡ 0 → length sheet < tracksOf i * reportsOf i → Answers i sheet (Refused noRoom) sheet
-unfolding roomFor
+unfolding cellRoom
 by-room i sheet e h =
     refused noRoom i sheet
-    (refused-by-room i (roomFor i sheet) e ∙ ap (λ (b : Bool). cond b 0 noRoom) (lt-leb (tracksOf i * reportsOf i) (length sheet) h))
+    (refused-by-room i (cellRoom i sheet) e ∙ ap (λ (b : Bool). cond b 0 noRoom) (lt-leb (tracksOf i * reportsOf i) (length sheet) h))
     (λ z. omega arith)
 
 -- served
 done : (i : Input) (sheet : List ℕ) → faultOf i ≡ 0 → tracksOf i * reportsOf i ≤ length sheet → Answers i sheet (Sheet (tracksOf i) (reportsOf i)) (cellsOf i ++ drop (tracksOf i * reportsOf i) sheet)
-unfolding sheetedOf sheetAfter roomFor sheetedBy sheetBy
-done i sheet e h = rw (refused-by-room i (roomFor i sheet) e, le-leb (tracksOf i * reportsOf i) (length sheet) h) (refl, refl)
+unfolding sheetedOf sheetAfter cellRoom sheetedBy sheetBy
+done i sheet e h = rw (refused-by-room i (cellRoom i sheet) e, le-leb (tracksOf i * reportsOf i) (length sheet) h) (refl, refl)
 
 -- what the call counts on once 1 to 8 do not apply, with its due list
 pub record Listed (i : Input) (n : ℕ) (due : List ℕ) : Type 0 where

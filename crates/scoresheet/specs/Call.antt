@@ -10,8 +10,8 @@ use Rattle.scoresheet.specs.declared.Sheeted.the-variants.{Refused, Shee
 use Rattle.scoresheet.specs.Cells.{cellsOf, tracksOf, reportsOf}
 
 -- room for a cell a pair
-unfoldable pub roomFor : Input → List ℕ → Bool
-roomFor i sheet = leb (tracksOf i * reportsOf i) (length sheet)
+unfoldable pub cellRoom : Input → List ℕ → Bool
+cellRoom i sheet = leb (tracksOf i * reportsOf i) (length sheet)
 
 -- the answer: the number of the refusal, or the sheet's two sizes
 unfoldable pub sheetedBy : ℕ → Input → Sheeted
@@ -24,7 +24,7 @@ sheetBy zero i sheet = cellsOf i ++ drop (tracksOf i * reportsOf i) sheet
 sheetBy (suc k) i sheet = sheet
 
 unfoldable pub sheetedOf : Input → List ℕ → Sheeted
-sheetedOf i sheet = sheetedBy (refusalOf i (roomFor i sheet)) i
+sheetedOf i sheet = sheetedBy (refusalOf i (cellRoom i sheet)) i
 
 unfoldable pub sheetAfter : Input → List ℕ → List ℕ
-sheetAfter i sheet = sheetBy (refusalOf i (roomFor i sheet)) i sheet
+sheetAfter i sheet = sheetBy (refusalOf i (cellRoom i sheet)) i sheet

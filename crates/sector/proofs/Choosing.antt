@@ -8,7 +8,7 @@ use Rattle.laws.specs.Lists.{at}
 use Rattle.matching.specs.Answer.{Sizes, sheetRefusal}
 use Rattle.matching.proofs.Theorems.{ready-is-not-refused, zero-certificate}
 use Rattle.engine.specs.declared.Paired.{Paired}
-use Rattle.engine.specs.Call.{Served, PairsSheet}
+use Rattle.engine.specs.Call.{SheetPaired, PairsSheet}
 use Rattle.intake.specs.Refusals.{Input, Ready}
 use Rattle.scoresheet.specs.Cells.{cellsOf, tracksOf, reportsOf, sectorSheet}
 use Rattle.scoresheet.specs.Ready.{RowsReady}
@@ -50,7 +50,7 @@ module _ (i : Input) (due sheet p u v : List ℕ) (r : Ready i) (q : Pairable i 
   paired-off sheet′ p′ u′ v′ answer e lp lu w =
       let full : sheet′ ≡ cellsOf i = cells-fill sheet′ e in
       let mine : PairsSheet (tracksOf i) (length (i .batch)) (cellsOf i) p u v p′ u′ v′ answer = rw (due-count, full) at w in
-      let s : Served (tracksOf i) (length (i .batch)) (cellsOf i) p u v p′ u′ v′ = mine .served not-refused in
+      let s : SheetPaired (tracksOf i) (length (i .batch)) (cellsOf i) p u v p′ u′ v′ = mine .served not-refused in
       let z = zero-certificate (tracksOf i) (length (i .batch)) (cellsOf i) p′ u′ v′ (s .accepted) in
       record {
         up = record { due-is = q .due-is; sheet-is = full; number-each = lp ∙ q .number-room; price-each = lu ∙ q .price-room; valid = z .1 .valid };

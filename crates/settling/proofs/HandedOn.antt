@@ -24,7 +24,7 @@ pub settleable : {t : Track} {s : ℕ} → WellFormed t s → Settleable t
 settleable w = record { range-in = w .range-in; range-speed-in = w .range-speed-in; azimuth-speed-in = w .azimuth-speed-in }
 
 -- a track as it leaves the call that served it in sector s: well formed for the next, and due again j calls after this one
-pub record Served (t : Track) (s : ℕ) : Type 0 where
+pub record ServedTrack (t : Track) (s : ℕ) : Type 0 where
   pub well : WellFormed t (nextSector s)
   pub again : t .wait + 1 ≡ callsAhead s (sectorOf (t .azimuth))
 
@@ -45,7 +45,7 @@ azimuth-lies azimuth speed = moved-lies azimuth speed
 -- ---- paired, coasted, started
 
 -- whatever the track was, a checked report makes it well formed
-pub updated-served : (t : Track) (p : Report) (s : ℕ) → s < sectors → Sound p → Served (updatedOf t p s) s
+pub updated-served : (t : Track) (p : Report) (s : ℕ) → s < sectors → Sound p → ServedTrack (updatedOf t p s) s
 unfolding updatedOf updatedRange updatedAzimuth updatedRangeSpeed updatedAzimuthSpeed
 updated-served t p s h w = record {
   well = record {
@@ -77,7 +77,7 @@ pub coasted-drops : (t : Track) (s : ℕ) → allowance (t .updates) < t .misses
 unfolding withoutPair
 coasted-drops t s h = rw (lt-ltb (allowance (t .updates)) (t .misses + 1) h)
 
-missed-served : (t : Track) (s : ℕ) → s < sectors → WellFormed t s → t .misses + 1 ≤ allowance (t .updates) → Served (coastedOf t s) s
+missed-served : (t : Track) (s : ℕ) → s < sectors → WellFormed t s → t .misses + 1 ≤ allowance (t .updates) → ServedTrack (coastedOf t s) s
 unfolding coastedOf
 missed-served t s h w l = record {
   well = record {
@@ -95,17 +95,17 @@ missed-served t s h w l = record {
   again = wait-is s _;
 }
 
-pub coasted-served : (t kept : Track) (s : ℕ) → s < sectors → WellFormed t s → withoutPair t s ≡ Coasts kept → Served kept s
+pub coasted-served : (t kept : Track) (s : ℕ) → s < sectors → WellFormed t s → withoutPair t s ≡ Coasts kept → ServedTrack kept s
 unfolding withoutPair
 coasted-served t kept s h w e = go (ltb (allowance (t .updates)) (t .misses + 1)) refl e
   where
-    go : (b : Bool) → ltb (allowance (t .updates)) (t .misses + 1) ≡ b → cond b Dropped (Coasts (coastedOf t s)) ≡ Coasts kept → Served kept s
+    go : (b : Bool) → ltb (allowance (t .updates)) (t .misses + 1) ≡ b → cond b Dropped (Coasts (coastedOf t s)) ≡ Coasts kept → ServedTrack kept s
     go true l q = let z : _≡_ {A = ℕ} 0 1 = cc in omega arith
     go false l q =
         let k : coastedOf t s ≡ kept = cc in
         rw k at (missed-served t s h w (ltb-false (allowance (t .updates)) (t .misses + 1) l))
 
-pub started-served : (p : Report) (s : ℕ) → s < sectors → p .azimuth < turn → Sound p → Served (startedOf p s) s
+pub started-served : (p : Report) (s : ℕ) → s < sectors → p .azimuth < turn → Sound p → ServedTrack (startedOf p s) s
 unfolding startedOf
 started-served p s h a w = record {
   well = record {

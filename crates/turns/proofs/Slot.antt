@@ -22,7 +22,7 @@ use Rattle.records.proofs.RoundTrips.{Bytes, unpack-pack}
 use Rattle.settling.specs.declared.Unpaired.{Unpaired}
 use Rattle.settling.specs.declared.Unpaired.the-variants.{Coasts, Dropped}
 use Rattle.settling.specs.Settle.{withoutPair, agedOf}
-use Rattle.settling.proofs.HandedOn.{Served, updated-served, coasted-served, started-served}
+use Rattle.settling.proofs.HandedOn.{ServedTrack, updated-served, coasted-served, started-served}
 use Rattle.matching.specs.Pairing.{none}
 use Rattle.intake.specs.Refusals.{Input, Ready}
 use Rattle.walk.specs.Table.{freed, pairedSlot, missedSlot, agedSlot, settledSlot, settledTable}
@@ -83,7 +83,7 @@ waits-one-less {l} {l′} a k h b m d =
 -- ---- a track that the call served or started
 
 -- packed, it says the same
-packed-served : {t : Track} {s : ℕ} → Served t s → Served (trackOf (bytesOf t)) s
+packed-served : {t : Track} {s : ℕ} → ServedTrack t s → ServedTrack (trackOf (bytesOf t)) s
 packed-served {t} {s} w =
     let e : trackOf (bytesOf t) ≡ t =
     unpack-pack t
@@ -92,41 +92,41 @@ packed-served {t} {s} w =
     rw e w
 
 -- a slot that is free, or holds a track as it leaves the call that served sector s
-pub record Fresh (s : ℕ) (slot : List ℕ) : Type 0 where
-  pub served : isFree slot ≡ false → Served (trackOf slot) s
+pub record JustServed (s : ℕ) (slot : List ℕ) : Type 0 where
+  pub served : isFree slot ≡ false → ServedTrack (trackOf slot) s
 
-fresh-bytes : {t : Track} {s : ℕ} → Served t s → Fresh s (bytesOf t)
+fresh-bytes : {t : Track} {s : ℕ} → ServedTrack t s → JustServed s (bytesOf t)
 fresh-bytes w = record { served = λ f. packed-served w }
 
-fresh-free : (s : ℕ) (slot : List ℕ) → isFree slot ≡ true → Fresh s slot
+fresh-free : (s : ℕ) (slot : List ℕ) → isFree slot ≡ true → JustServed s slot
 fresh-free s slot e = record { served = λ f. absurd (clash e f) }
 
 freed-free : isFree freed ≡ true
 unfolding isFree freed
 freed-free = refl
 
-fresh-missed : (s : ℕ) (slot : List ℕ) → s < sectors → WellFormed (trackOf slot) s → Fresh s (missedSlot s slot)
+fresh-missed : (s : ℕ) (slot : List ℕ) → s < sectors → WellFormed (trackOf slot) s → JustServed s (missedSlot s slot)
 fresh-missed s slot h w = go (withoutPair (trackOf slot) s) refl
   where
-    go : (u : Unpaired) → withoutPair (trackOf slot) s ≡ u → Fresh s (missedSlot s slot)
+    go : (u : Unpaired) → withoutPair (trackOf slot) s ≡ u → JustServed s (missedSlot s slot)
     go (Coasts t) e = rw (missed-kept s slot t e) (fresh-bytes (coasted-served (trackOf slot) t s h w e))
     go Dropped e = rw (missed-dropped s slot e) (fresh-free s freed freed-free)
 
 -- a slot that is not malformed and does not hold a track is free, and ageing keeps it so
-fresh-aged : {s : ℕ} {batch : List (List ℕ)} {P slot : List ℕ} {rank : ℕ} → SlotSettles s batch P slot rank → (at slot markAt ≡ held → ⊥) → Fresh s (agedSlot slot)
+fresh-aged : {s : ℕ} {batch : List (List ℕ)} {P slot : List ℕ} {rank : ℕ} → SlotSettles s batch P slot rank → (at slot markAt ≡ held → ⊥) → JustServed s (agedSlot slot)
 unfolding agedSlot
 fresh-aged {s} {batch} {P} {slot} {rank} w n = rw (ne-eqb (at slot markAt) held n) (go (eqb (at slot markAt) free) refl)
   where
-    go : (b : Bool) → eqb (at slot markAt) free ≡ b → Fresh s slot
+    go : (b : Bool) → eqb (at slot markAt) free ≡ b → JustServed s slot
     go true e = fresh-free s slot (is-free slot e)
     go false e = absurd (n (track-mark slot (slot-well-formed slot s (w .slot-good) (eqb-false (at slot markAt) free e) .is-held)))
 
 -- so every slot that did not hold a waiting track, as pairing leaves it
-fresh-settled : {s : ℕ} {batch : List (List ℕ)} {P slot : List ℕ} {rank : ℕ} → SlotSettles s batch P slot rank → (at slot markAt ≡ held → slotDue slot ≡ true) → Fresh s (settledSlot s batch P slot rank)
+fresh-settled : {s : ℕ} {batch : List (List ℕ)} {P slot : List ℕ} {rank : ℕ} → SlotSettles s batch P slot rank → (at slot markAt ≡ held → slotDue slot ≡ true) → JustServed s (settledSlot s batch P slot rank)
 unfolding settledSlot pairedSlot
 fresh-settled {s} {batch} {P} {slot} {rank} w n = go (slotDue slot) refl (eqb (at P rank) none) refl
   where
-    go : (b : Bool) → slotDue slot ≡ b → (e : Bool) → eqb (at P rank) none ≡ e → Fresh s (cond b (cond e (missedSlot s slot) (pairedSlot s (getD batch (at P rank) []) slot)) (agedSlot slot))
+    go : (b : Bool) → slotDue slot ≡ b → (e : Bool) → eqb (at P rank) none ≡ e → JustServed s (cond b (cond e (missedSlot s slot) (pairedSlot s (getD batch (at P rank) []) slot)) (agedSlot slot))
     go true d true e = fresh-missed s slot (w .sector-in) (due-track slot s (w .slot-good) d)
     go true d false e =
         let p = getD batch (at P rank) [] in
@@ -142,15 +142,15 @@ set-keeps R k j table v q w = go (eqb k j) refl (ltb k (length table)) refl
     go true e false h = let m : j ≡ k = sym (eqb-true k j e) in rw (m, set-out table k v (ltb-false k (length table) h)) q
     go false e c h = rw (getD-set-other table j k v [] (eqb-false k j e)) q
 
-fresh-started : (h : Handed) (P : List ℕ) (table : List (List ℕ)) (k : ℕ) → h .sector < sectors → GoodReports h → Fresh (h .sector) (getD table k []) → Fresh (h .sector) (getD (startedTable h P table) k [])
+fresh-started : (h : Handed) (P : List ℕ) (table : List (List ℕ)) (k : ℕ) → h .sector < sectors → GoodReports h → JustServed (h .sector) (getD table k []) → JustServed (h .sector) (getD (startedTable h P table) k [])
 unfolding startedTable reportNumbers
 fresh-started h P table k l w g =
     all-keep (afterReport h P) Q (length (h .batch)) (λ j. j) table
-    (λ j t i q. report-keeps Q h P j t q (set-keeps (Fresh (h .sector)) k (freeSlot t) t _ q (fresh-bytes (started-served _ (h .sector) l (w .azimuth-in j i) (w .sound j i)))))
+    (λ j t i q. report-keeps Q h P j t q (set-keeps (JustServed (h .sector)) k (freeSlot t) t _ q (fresh-bytes (started-served _ (h .sector) l (w .azimuth-in j i) (w .sound j i)))))
     g
   where
     Q : List (List ℕ) → Type 0
-    Q t = Fresh (h .sector) (getD t k [])
+    Q t = JustServed (h .sector) (getD t k [])
 
 -- A track that was updated, coasted and kept, or started in the call is stored with a wait of 15 to 46; counted from the next call's
 -- sector it leads to the predicted sector.
@@ -171,11 +171,11 @@ served-waits {l} {l′} a k w = record {
     r : Ready i
     r = was-ready a
 
-    settled : Fresh (l .sector) (getD (settledTable i P) k [])
+    settled : JustServed (l .sector) (getD (settledTable i P) k [])
     settled = rw (settled-at i P k (w .lies)) (fresh-settled (settles-at i P r (names (outcome a .choice)) k (w .lies)) (w .was-due))
 
-    left : Fresh (l .sector) (slotAt l′ k)
+    left : JustServed (l .sector) (slotAt l′ k)
     left = rw (left-slot i l l′ _ (outcome a) k) (fresh-started (reportsIn i) P (settledTable i P) k (r .sector-in) (good-reports r) settled)
 
-    t : Served (trackOf (slotAt l′ k)) (l .sector)
+    t : ServedTrack (trackOf (slotAt l′ k)) (l .sector)
     t = left .served (held-not-free (slotAt l′ k) (w .is-held))

@@ -10,7 +10,7 @@ use Rattle.records.specs.Fields.{held, allowance}
 use Rattle.laws.specs.Lists.{at}
 use Rattle.records.specs.Bytes.{markAt, trackOf, bytesOf, reportOf, slotDue}
 use Rattle.settling.specs.Settle.{updatedOf, coastedOf, startedOf}
-use Rattle.matching.specs.Pairing.{none, Paired}
+use Rattle.matching.specs.Pairing.{none, HasReport}
 use Rattle.intake.specs.Refusals.{Input}
 use Rattle.scoresheet.specs.Cells.{tracksOf, reportsOf}
 use Rattle.scoresheet.proofs.Due.{due-lies, due-is-due}
@@ -47,7 +47,7 @@ module _ {l l′ : Lent} (a : Accepted l l′) where
   }
 
   -- A due track with a pair is served, and its slot holds it as its report updates it.
-  pub paired-served-in : (n : ℕ) → n < tracksOf i → Paired (at P) n → ServedTo (updatedOf (words.dueTrack i n) (reportOf (getD (a .batch) (at P n) [])) (l .sector)) l l′ (words.slotOfDue i n)
+  pub paired-served-in : (n : ℕ) → n < tracksOf i → HasReport (at P) n → ServedTo (updatedOf (words.dueTrack i n) (reportOf (getD (a .batch) (at P n) [])) (l .sector)) l l′ (words.slotOfDue i n)
   unfolding updatedOf
   paired-served-in n h p = due-served n h _ refl (paired-slot-after i l l′ counts (outcome a) n h p)
 
