@@ -22,7 +22,7 @@ module _ (cells : List ℕ) (m n track : ℕ) (pairing owner prices discounts : 
   prices1 = set prices track v
 
   u1-r : at prices1 track ≡ v
-  u1-r = getD-set-same prices track v 0 (omega (arith, G .shape .lu))
+  u1-r = getD-set-same prices track v 0 (omega (arith, G .shape .prices-long))
 
   u1-o : (i : ℕ) → (i ≡ track → ⊥) → at prices1 i ≡ at prices i
   u1-o i d = getD-set-other prices track i v 0 d
@@ -31,17 +31,17 @@ module _ (cells : List ℕ) (m n track : ℕ) (pairing owner prices discounts : 
   own1 j i h o = record {
     there = o .there;
     back = o .back;
-    adm = o .adm;
-    tight = u1-o i (λ q. omega (arith, o .back, ap (at pairing) q, G .shape .mm)) ∙ o .tight;
+    admissible = o .admissible;
+    tight = u1-o i (λ q. omega (arith, o .back, ap (at pairing) q, G .shape .reports-few)) ∙ o .tight;
   }
 
   pub priced : Good cells m n pairing owner prices1 discounts
   priced = record {
-    shape = record { lC = G .shape .lC; lp = G .shape .lp; lo = G .shape .lo; lu = simp length-set (G .shape .lu); lw = G .shape .lw; nn = G .shape .nn; mm = G .shape .mm; cs = G .shape .cs };
+    shape = record { cells-long = G .shape .cells-long; pairing-long = G .shape .pairing-long; owner-long = G .shape .owner-long; prices-long = simp length-set (G .shape .prices-long); discounts-long = G .shape .discounts-long; tracks-few = G .shape .tracks-few; reports-few = G .shape .reports-few; cells-good = G .shape .cells-good };
     P = record {
-      feas = λ i j h g a. ⊎-elim (λ q. rw q (omega (arith, u1-r, vc j g))) (λ d. omega (arith, u1-o i d, G .P .feas i j h g a)) (same-or i track);
-      um = λ i h. ⊎-elim (λ q. rw q (omega (arith, u1-r))) (λ d. omega (arith, u1-o i d, G .P .um i h)) (same-or i track);
-      wm = G .P .wm;
+      fair = λ i j h g a. ⊎-elim (λ q. rw q (omega (arith, u1-r, vc j g))) (λ d. omega (arith, u1-o i d, G .P .fair i j h g a)) (same-or i track);
+      price-in = λ i h. ⊎-elim (λ q. rw q (omega (arith, u1-r))) (λ d. omega (arith, u1-o i d, G .P .price-in i h)) (same-or i track);
+      discount-in = G .P .discount-in;
     };
     M = record {
       owned = λ j h d. ⊎-elim inl (λ o. inr (own1 j (at owner j) h o)) (G .M .owned j h d);
@@ -51,12 +51,12 @@ module _ (cells : List ℕ) (m n track : ℕ) (pairing owner prices discounts : 
 
   module _ (j : ℕ) (jm : j < m) (free : at owner j ≡ none) (low : v < leftOut) (eq : cell cells m track j ≡ v) where
     w0 : at discounts j ≡ 0
-    w0 = ⊎-elim (λ a. a .1) (λ o. absurd (omega (arith, o .there, G .shape .nn))) (G .M .owned j jm (λ e. omega (arith, G .shape .mm)))
+    w0 = ⊎-elim (λ a. a .1) (λ o. absurd (omega (arith, o .there, G .shape .tracks-few))) (G .M .owned j jm (λ e. omega (arith, G .shape .reports-few)))
 
     hole : Match cells m n pairing owner prices1 discounts j
     hole = record {
-      owned = λ k h d. priced .M .owned k h (λ e. omega (arith, G .shape .mm));
-      paired = λ i h. ⊎-elim inl (λ a. inr (a .0, ((λ e. omega (arith, sym (a .1 .1) ∙ ap (at owner) e ∙ free, G .shape .nn)), a .1 .1))) (G .M .paired i h);
+      owned = λ k h d. priced .M .owned k h (λ e. omega (arith, G .shape .reports-few));
+      paired = λ i h. ⊎-elim inl (λ a. inr (a .0, ((λ e. omega (arith, sym (a .1 .1) ∙ ap (at owner) e ∙ free, G .shape .tracks-few)), a .1 .1))) (G .M .paired i h);
     }
 
     fits : cell cells m track j < far
@@ -76,13 +76,13 @@ module _ (cells : List ℕ) (m n track : ℕ) (pairing owner prices discounts : 
 module _ (cells : List ℕ) (m track : ℕ) (pairing owner prices discounts : List ℕ) (F : Fresh cells m track pairing owner prices discounts) (x : ℕ) (ex : x ≡ track) where
   pub claim-cells : (length (row cells m x) ≤ mostColumns) × ((k : ℕ) → k < length (row cells m x) → IsCell (at (row cells m x) k))
   claim-cells =
-      let h : x < length prices = omega (arith, F .rr) in
-      let l = F .good .shape .lC in
+      let h : x < length prices = omega (arith, F .track-in) in
+      let l = F .good .shape .cells-long in
       let e = row-length cells m (length prices) x h l in (
-        omega (arith, e, F .good .shape .mm),
+        omega (arith, e, F .good .shape .reports-few),
         λ k g.
             let q : k < m = omega (arith, e) in
-            rw (row-at cells m (length prices) x h l k q) (F .good .shape .cs (x * m + k) (omega (arith, row-end cells m (length prices) x h l))),
+            rw (row-at cells m (length prices) x h l k q) (F .good .shape .cells-good (x * m + k) (omega (arith, row-end cells m (length prices) x h l))),
       )
 
 -- what claim shows, over the part of the sheet that it reads
@@ -92,24 +92,24 @@ module _ (cells : List ℕ) (m track : ℕ) (pairing owner prices discounts : Li
   n = length prices
 
   plen : length (row cells m x) ≡ m
-  plen = row-length cells m n x (omega (arith, F .rr)) (F .good .shape .lC)
+  plen = row-length cells m n x (omega (arith, F .track-in)) (F .good .shape .cells-long)
 
   pat : (k : ℕ) → k < m → at (row cells m x) k ≡ cell cells m track k
-  pat k h = row-at cells m n x (omega (arith, F .rr)) (F .good .shape .lC) k h ∙ rw ex refl
+  pat k h = row-at cells m n x (omega (arith, F .track-in)) (F .good .shape .cells-long) k h ∙ rw ex refl
 
   vr : (j : ℕ) → j < m → v ≤ cell cells m track j
   vr j h = omega (arith, vc j (omega (arith, plen)), pat j h)
 
   pub claimed-price : Claimed cells m n track pairing pairing owner (set prices x v) discounts
   claimed-price = record {
-    good = rw ex (priced cells m n track pairing owner prices discounts (F .good) (F .rr) (F .rp) v vM vr);
+    good = rw ex (priced cells m n track pairing owner prices discounts (F .good) (F .track-in) (F .rp) v vM vr);
     others = λ i d z. z;
   }
 
   pub claimed-pair : (j : ℕ) → j < m → v < leftOut → at (row cells m x) j ≡ v → at owner j ≡ none
       → Claimed cells m n track pairing (set pairing x j) (set owner j track) (set prices x v) discounts
   claimed-pair j h l e f = record {
-    good = rw ex (given cells m n track pairing owner prices discounts (F .good) (F .rr) (F .rp) v vM vr j h f l (sym (pat j h) ∙ e));
+    good = rw ex (given cells m n track pairing owner prices discounts (F .good) (F .track-in) (F .rp) v vM vr j h f l (sym (pat j h) ∙ e));
     others = λ i d z. getD-set-other pairing x i j 0 (λ q. d (q ∙ ex)) ∙ z;
   }
 
@@ -122,12 +122,12 @@ module _ (cells : List ℕ) (m track : ℕ) (pairing owner prices discounts : Li
       let g : h < m = omega (arith, e .0, plen) in
       let q : cell cells m track h ≡ v = sym (pat h g) ∙ e .1 in
       record {
-        good = good-len cells m n pairing owner (set prices x v) discounts (rw ex (priced cells m n track pairing owner prices discounts (F .good) (F .rr) (F .rp) v vM vr));
-        rr = omega (arith, len1, F .rr);
+        good = good-len cells m n pairing owner (set prices x v) discounts (rw ex (priced cells m n track pairing owner prices discounts (F .good) (F .track-in) (F .rp) v vM vr));
+        track-in = omega (arith, len1, F .track-in);
         rp = F .rp;
-        hm = g;
-        adm = omega arith;
-        tight = omega (arith, ap (at (set prices x v)) (sym ex), getD-set-same prices x v 0 (omega (arith, F .rr)), F .zero h g);
+        hole-in = g;
+        admissible = omega arith;
+        tight = omega (arith, ap (at (set prices x v)) (sym ex), getD-set-same prices x v 0 (omega (arith, F .track-in)), F .zero h g);
       }
 
   pub claimed-len : (pairing' owner' : List ℕ) → Claimed cells m (length (set prices x v)) track pairing pairing' owner' (set prices x v) discounts
@@ -135,7 +135,7 @@ module _ (cells : List ℕ) (m track : ℕ) (pairing owner prices discounts : Li
   claimed-len pairing' owner' K = subst (λ (k : ℕ). Claimed cells m k track pairing pairing' owner' (set prices x v) discounts) len1 K
 
   pub claim-len : (length owner ≡ length (row cells m x)) × (m ≡ length (row cells m x))
-  claim-len = (F .good .shape .lo ∙ sym plen, sym plen)
+  claim-len = (F .good .shape .owner-long ∙ sym plen, sym plen)
 
 -- a report goes from its owner to a track without one
 module _ (cells : List ℕ) (m track h : ℕ) (pairing owner prices discounts : List ℕ) (C : Contest cells m track h pairing owner prices discounts) where
@@ -150,10 +150,10 @@ module _ (cells : List ℕ) (m track h : ℕ) (pairing owner prices discounts : 
     pairing1 = set pairing o none
 
     own : Own cells m (length prices) pairing prices discounts h o
-    own = ⊎-elim (λ z. absurd (omega (arith, z .0, C .good .shape .nn))) (λ y. y) (C .good .M .owned h (C .hm) (λ e. omega (arith, C .hm, C .good .shape .mm)))
+    own = ⊎-elim (λ z. absurd (omega (arith, z .0, C .good .shape .tracks-few))) (λ y. y) (C .good .M .owned h (C .hole-in) (λ e. omega (arith, C .hole-in, C .good .shape .reports-few)))
 
     om : at pairing o < m
-    om = omega (arith, own .back, C .hm)
+    om = omega (arith, own .back, C .hole-in)
 
     hole1 : Match cells m (length prices) pairing1 owner prices discounts h
     hole1 = (rw (own .back) at (vacated cells m (length prices) prices discounts pairing owner (C .good .shape) (C .good .M) o on om))
@@ -162,14 +162,14 @@ module _ (cells : List ℕ) (m track h : ℕ) (pairing owner prices discounts : 
     shape-1 = shape1 cells m (length prices) prices discounts pairing owner (C .good .shape) (C .good .M) o on om
 
     left : (i : ℕ) → at pairing i ≡ none → at pairing1 i ≡ none
-    left i z = stays cells m (length prices) prices discounts pairing owner (C .good .shape) (C .good .M) o on om i (λ q. omega (arith, ap (at pairing) q, om, C .good .shape .mm)) ∙ z
+    left i z = stays cells m (length prices) prices discounts pairing owner (C .good .shape) (C .good .M) o on om i (λ q. omega (arith, ap (at pairing) q, om, C .good .shape .reports-few)) ∙ z
 
     won : Claimed cells m (length prices) track pairing (set pairing1 track h) (set owner h track) prices discounts
     won = record {
       good = record {
-        shape = shape' cells m (length prices) prices discounts pairing1 owner shape-1 h (C .hm) hole1 track (C .rr) (C .adm) (C .tight);
+        shape = shape' cells m (length prices) prices discounts pairing1 owner shape-1 h (C .hole-in) hole1 track (C .track-in) (C .admissible) (C .tight);
         P = C .good .P;
-        M = (rw (left track (C .rp)) at (refit cells m (length prices) prices discounts pairing1 owner shape-1 h (C .hm) hole1 track (C .rr) (C .adm) (C .tight)));
+        M = (rw (left track (C .rp)) at (refit cells m (length prices) prices discounts pairing1 owner shape-1 h (C .hole-in) hole1 track (C .track-in) (C .admissible) (C .tight)));
       };
       others = λ i d z. getD-set-other pairing1 track i h 0 d ∙ left i z;
     }
@@ -179,26 +179,26 @@ module _ (cells : List ℕ) (m track h : ℕ) (pairing owner prices discounts : 
   ousted x j y ex ej ey l = rw (ey, ej, ex) (won (rw (ey, ej) at l))
 
 -- a visit where nothing is to do, and where the track is to be inserted
-module _ (cells : List ℕ) (m track : ℕ) (pairing owner prices discounts dist par shut : List ℕ) (Vs : Visit cells m track pairing owner prices discounts dist par shut) (x : ℕ) (ex : x ≡ track) where
+module _ (cells : List ℕ) (m track : ℕ) (pairing owner prices discounts labels parents closings : List ℕ) (Vs : Visit cells m track pairing owner prices discounts labels parents closings) (x : ℕ) (ex : x ≡ track) where
   same : Done m pairing prices track → Inserted cells m (length prices) track pairing prices pairing owner prices discounts
   same d = record { good = Vs .good; done = λ i h a. a; done-r = d }
 
   pub visit-pair : (at pairing x ≡ none → ⊥) → Inserted cells m (length prices) track pairing prices pairing owner prices discounts
-  visit-pair d = same (⊎-elim (λ z. absurd (d (ap (at pairing) ex ∙ z))) (λ z. inl (z .0)) (Vs .good .M .paired track (Vs .rr)))
+  visit-pair d = same (⊎-elim (λ z. absurd (d (ap (at pairing) ex ∙ z))) (λ z. inl (z .0)) (Vs .good .M .paired track (Vs .track-in)))
 
   pub visit-left : leftOut ≤ at prices x → Inserted cells m (length prices) track pairing prices pairing owner prices discounts
-  visit-left l = same (inr (omega (arith, ap (at prices) ex, Vs .good .P .um track (Vs .rr))))
+  visit-left l = same (inr (omega (arith, ap (at prices) ex, Vs .good .P .price-in track (Vs .track-in))))
 
-  pub visit-ready : at pairing x ≡ none → Searchable cells m track pairing owner prices discounts dist par shut
+  pub visit-ready : at pairing x ≡ none → Searchable cells m track pairing owner prices discounts labels parents closings
   visit-ready z = record {
     shape = Vs .good .shape;
     P = Vs .good .P;
     M = Vs .good .M;
-    rr = Vs .rr;
+    track-in = Vs .track-in;
     rp = sym (ap (at pairing) ex) ∙ z;
-    ld = Vs .ld;
-    lpar = Vs .lpar;
-    ls = Vs .ls;
+    labels-long = Vs .labels-long;
+    parents-long = Vs .parents-long;
+    closings-long = Vs .closings-long;
   }
 
 -- all filled
@@ -207,6 +207,6 @@ pub blank : (cells : List ℕ) (m n : ℕ) (pairing owner prices discounts : Lis
     → ((i : ℕ) → i < n → at prices i ≡ 0) → ((j : ℕ) → j < m → at discounts j ≡ 0) → Good cells m n pairing owner prices discounts
 blank cells m n pairing owner prices discounts S p o v z = record {
   shape = S;
-  P = record { feas = λ i j h g a. omega (arith, v i h); um = λ i h. omega (arith, v i h); wm = λ j h. omega (arith, z j h) };
+  P = record { fair = λ i j h g a. omega (arith, v i h); price-in = λ i h. omega (arith, v i h); discount-in = λ j h. omega (arith, z j h) };
   M = record { owned = λ j h d. inl (o j h, z j h); paired = λ i h. inl (p i h) };
 }

@@ -57,12 +57,12 @@ module _ (n m : ℕ) (s p u v : List ℕ) where
     pub tested : Tested own m (take n p) (take n u) (take m v)
     tested =
         record {
-          lC = own-length ∙ ap (λ (x : ℕ). x * m) (sym prices-length);
-          lp = length-take-le n p (sizes .pairing-long) ∙ sym prices-length;
-          lw = length-take-le m v (sizes .discounts-long);
-          nn = omega (arith, prices-length, sizes .tracks-few);
-          mm = omega (arith, sizes .reports-few);
-          cs = λ k h. let g : k < n * m = omega (arith, own-length) in rw (own-at k g) (cells k g);
+          cells-long = own-length ∙ ap (λ (x : ℕ). x * m) (sym prices-length);
+          pairing-long = length-take-le n p (sizes .pairing-long) ∙ sym prices-length;
+          discounts-long = length-take-le m v (sizes .discounts-long);
+          tracks-few = omega (arith, prices-length, sizes .tracks-few);
+          reports-few = omega (arith, sizes .reports-few);
+          cells-good = λ k h. let g : k < n * m = omega (arith, own-length) in rw (own-at k g) (cells k g);
         }
 
     module _ (P U D : List ℕ) (C : Certified own m n P U D) where
@@ -72,9 +72,9 @@ module _ (n m : ℕ) (s p u v : List ℕ) where
             tracks-few = sizes .tracks-few;
             reports-few = sizes .reports-few;
             cells-long = omega (arith, own-length);
-            pairing-long = omega (arith, C .lp);
-            prices-long = omega (arith, C .lu);
-            discounts-long = omega (arith, C .lw);
+            pairing-long = omega (arith, C .pairing-long);
+            prices-long = omega (arith, C .prices-long);
+            discounts-long = omega (arith, C .discounts-long);
           }
 
       -- what is written, and what stood beyond
@@ -84,9 +84,9 @@ module _ (n m : ℕ) (s p u v : List ℕ) where
             tracks-few = sizes .tracks-few;
             reports-few = sizes .reports-few;
             cells-long = sizes .cells-long;
-            pairing-long = omega (arith, C .lp, length-append P (drop n p));
-            prices-long = omega (arith, C .lu, length-append U (drop n u));
-            discounts-long = omega (arith, C .lw, length-append D (drop m v));
+            pairing-long = omega (arith, C .pairing-long, length-append P (drop n p));
+            prices-long = omega (arith, C .prices-long, length-append U (drop n u));
+            discounts-long = omega (arith, C .discounts-long, length-append D (drop m v));
           }
 
       first : (k : ℕ) (X Y : List ℕ) → length X ≡ k → (i : ℕ) → i < k → at X i ≡ at (X ++ Y) i
@@ -96,16 +96,16 @@ module _ (n m : ℕ) (s p u v : List ℕ) where
       accepted =
           sym
           (beyond-is-not-read n m own s P (P ++ drop n p) U (U ++ drop n u) D (D ++ drop m v) fits fits-whole own-at
-          (first n P (drop n p) (C .lp)) (first n U (drop n u) (C .lu)) (first m D (drop m v) (C .lw)))
+          (first n P (drop n p) (C .pairing-long)) (first n U (drop n u) (C .prices-long)) (first m D (drop m v) (C .discounts-long)))
           ∙ certificate-zero n m own P U D fits (C .shown)
 
       served : SheetPaired n m s p u v (P ++ drop n p) (U ++ drop n u) (D ++ drop m v)
       served =
           record {
             accepted = accepted;
-            pairing-beyond = drop-at P (drop n p) n (C .lp);
-            prices-beyond = drop-at U (drop n u) n (C .lu);
-            discounts-beyond = drop-at D (drop m v) m (C .lw);
+            pairing-beyond = drop-at P (drop n p) n (C .pairing-long);
+            prices-beyond = drop-at U (drop n u) n (C .prices-long);
+            discounts-beyond = drop-at D (drop m v) m (C .discounts-long);
           }
 
     pub serves : (P U D : List ℕ) → Certified own m (length (take n u)) P U D → PairsSheet n m s p u v (P ++ drop n p) (U ++ drop n u) (D ++ drop m v) Done

@@ -25,7 +25,7 @@ module _ {cells : List ℕ} {m n : ℕ} {pairing owner prices discounts : List �
   score : (i j : ℕ) → i < n → j < m → Admissible sheet i j → cell cells m i j < scoreEnd
   score i j h g a =
       ⊎-elim (λ s. s) (λ z. absurd (a z))
-      (S .good .shape .cs (i * m + j) (omega (arith, row-in i n m (length cells) h (omega (arith, S .good .shape .lC)))))
+      (S .good .shape .cells-good (i * m + j) (omega (arith, row-in i n m (length cells) h (omega (arith, S .good .shape .cells-long)))))
 
   -- a track's report is its own
   mine : (i : ℕ) → i < n → HasReport (at pairing) i → (at pairing i < m) × (at owner (at pairing i) ≡ i)
@@ -34,14 +34,14 @@ module _ {cells : List ℕ} {m n : ℕ} {pairing owner prices discounts : List �
   own : (i : ℕ) → i < n → HasReport (at pairing) i → Own cells m n pairing prices discounts (at pairing i) i
   own i h p =
       let o = mine i h p in
-      ⊎-elim (λ a. absurd (omega (arith, a .0, o .1, S .good .shape .nn))) (λ x. rw (o .1) at x)
+      ⊎-elim (λ a. absurd (omega (arith, a .0, o .1, S .good .shape .tracks-few))) (λ x. rw (o .1) at x)
       (S .good .M .owned (at pairing i) (o .0) (λ e. p e))
 
   valid : ValidPairing sheet (at pairing)
   valid =
       record {
         there = λ i h p. mine i h p .0;
-        admissible = λ i h p z. omega (arith, own i h p .adm);
+        admissible = λ i h p z. omega (arith, own i h p .admissible);
         once = λ i k h g p e. sym (mine i h p .1) ∙ ap (at owner) e ∙ mine k g (λ z. p (e ∙ z)) .1;
       }
 
@@ -61,7 +61,7 @@ module _ {cells : List ℕ} {m n : ℕ} {pairing owner prices discounts : List �
   unfolding part
   price-is i h =
       ⊎-elim
-      (λ z. rw (eq-eqb (at pairing i) none z) (⊎-elim (λ p. absurd (omega (arith, S .good .shape .mm))) (λ e. omega arith) (S .done i h)))
+      (λ z. rw (eq-eqb (at pairing i) none z) (⊎-elim (λ p. absurd (omega (arith, S .good .shape .reports-few))) (λ e. omega arith) (S .done i h)))
       (λ p. rw (ne-eqb (at pairing i) none p) (own i h p .tight)) (same-or (at pairing i) none)
 
   more : (k j : ℕ) → upto (suc k) j ≡ upto k j + only k j
@@ -81,15 +81,15 @@ module _ {cells : List ℕ} {m n : ℕ} {pairing owner prices discounts : List �
   -- a report whose track is k is k's
   back : (k j : ℕ) → k < n → j < m → at owner j ≡ k → at pairing k ≡ j
   back k j h g q =
-      ⊎-elim (λ a. absurd (omega (arith, a .0, S .good .shape .nn))) (λ o. sym (ap (at pairing) q) ∙ o .back)
-      (S .good .M .owned j g (λ e. omega (arith, S .good .shape .mm)))
+      ⊎-elim (λ a. absurd (omega (arith, a .0, S .good .shape .tracks-few))) (λ o. sym (ap (at pairing) q) ∙ o .back)
+      (S .good .M .owned j g (λ e. omega (arith, S .good .shape .reports-few)))
 
   only-sum : (k : ℕ) → k < n → Sum m (only k) ≡ part k
   unfolding part only
   only-sum k h =
       ⊎-elim
       (λ z.
-      sum-zero m (only k) (λ j g. rw (ne-eqb (at owner j) k (λ q. omega (arith, back k j h g q, S .good .shape .mm))) refl)
+      sum-zero m (only k) (λ j g. rw (ne-eqb (at owner j) k (λ q. omega (arith, back k j h g q, S .good .shape .reports-few))) refl)
       ∙ sym (rw (eq-eqb (at pairing k) none z) refl))
       (λ p.
       sum-one m (at pairing k) (only k) (mine k h p .0) (λ j g d. rw (ne-eqb (at owner j) k (λ q. d (sym (back k j h g q)))) refl)
@@ -106,8 +106,8 @@ module _ {cells : List ℕ} {m n : ℕ} {pairing owner prices discounts : List �
   all : (j : ℕ) → j < m → upto n j ≡ at discounts j
   unfolding upto
   all j g =
-      ⊎-elim (λ a. rw (le-ltb (at owner j) n (omega (arith, a .0, S .good .shape .nn))) (sym (a .1)))
-      (λ o. rw (lt-ltb (at owner j) n (o .there)) refl) (S .good .M .owned j g (λ e. omega (arith, S .good .shape .mm)))
+      ⊎-elim (λ a. rw (le-ltb (at owner j) n (omega (arith, a .0, S .good .shape .tracks-few))) (sym (a .1)))
+      (λ o. rw (lt-ltb (at owner j) n (o .there)) refl) (S .good .M .owned j g (λ e. omega (arith, S .good .shape .reports-few)))
 
   totals : Sum n (at prices) ≡ total sheet (at pairing) + Sum m (at discounts)
   unfolding total
@@ -119,12 +119,12 @@ module _ {cells : List ℕ} {m n : ℕ} {pairing owner prices discounts : List �
   pub shown : Certificate sheet (at pairing) (at prices) (at discounts)
   shown =
       record {
-        range = record { tracks-few = S .good .shape .nn; scores = score };
+        range = record { tracks-few = S .good .shape .tracks-few; scores = score };
         valid = valid;
         fair = record {
-          price = S .good .P .um;
-          discount = S .good .P .wm;
-          under = λ i j h g a. S .good .P .feas i j h g (omega (arith, score i j h g a));
+          price = S .good .P .price-in;
+          discount = S .good .P .discount-in;
+          under = λ i j h g a. S .good .P .fair i j h g (omega (arith, score i j h g a));
         };
         totals = totals;
       }

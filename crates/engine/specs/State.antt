@@ -12,34 +12,34 @@ use Rattle.queue.specs.State.{Rooms}
 -- a track that is in no pair, at the start
 pub record Fresh (cells : List ℕ) (m track : ℕ) (pairing owner prices discounts : List ℕ) : Type 0 where
   pub good : Good cells m (length prices) pairing owner prices discounts
-  pub rr : track < length prices
+  pub track-in : track < length prices
   pub rp : at pairing track ≡ none
   pub zero : (j : ℕ) → j < m → at discounts j ≡ 0
 
 -- a track that is in no pair, and a report of its price
 pub record Contest (cells : List ℕ) (m track h : ℕ) (pairing owner prices discounts : List ℕ) : Type 0 where
   pub good : Good cells m (length prices) pairing owner prices discounts
-  pub rr : track < length prices
+  pub track-in : track < length prices
   pub rp : at pairing track ≡ none
-  pub hm : h < m
-  pub adm : cell cells m track h < far
+  pub hole-in : h < m
+  pub admissible : cell cells m track h < far
   pub tight : at prices track ≡ cell cells m track h + at discounts h
 
 pub record Claimed (cells : List ℕ) (m n track : ℕ) (pairing pairing' owner' prices' discounts : List ℕ) : Type 0 where
   pub good : Good cells m n pairing' owner' prices' discounts
   pub others : (i : ℕ) → (i ≡ track → ⊥) → at pairing i ≡ none → at pairing' i ≡ none
 
-pub record WorkRoom (cells : List ℕ) (m n : ℕ) (pairing owner prices discounts dist par shut slack : List ℕ) : Type 0 where
+pub record WorkRoom (cells : List ℕ) (m n : ℕ) (pairing owner prices discounts labels parents closings slack : List ℕ) : Type 0 where
   pub shape : Shape cells m n pairing owner prices discounts
-  pub rooms : Rooms m dist par shut
-  pub lk : length slack ≡ m
+  pub rooms : Rooms m labels parents closings
+  pub slack-long : length slack ≡ m
 
-pub record Visit (cells : List ℕ) (m track : ℕ) (pairing owner prices discounts dist par shut : List ℕ) : Type 0 where
+pub record Visit (cells : List ℕ) (m track : ℕ) (pairing owner prices discounts labels parents closings : List ℕ) : Type 0 where
   pub good : Good cells m (length prices) pairing owner prices discounts
-  pub rr : track < length prices
-  pub ld : length dist ≡ m
-  pub lpar : length par ≡ m
-  pub ls : length shut ≡ m
+  pub track-in : track < length prices
+  pub labels-long : length labels ≡ m
+  pub parents-long : length parents ≡ m
+  pub closings-long : length closings ≡ m
 
 -- the whole answer: fair prices, tight pairs, free reports at 0, and each track paired or at the full price
 pub record Solved (cells : List ℕ) (m n : ℕ) (pairing owner prices discounts : List ℕ) : Type 0 where
@@ -48,16 +48,16 @@ pub record Solved (cells : List ℕ) (m n : ℕ) (pairing owner prices discounts
 
 -- what the engine asks of a caller: few enough tracks and reports, lists of their lengths, and each cell a score or none
 pub record Tested (cells : List ℕ) (m : ℕ) (pairing prices discounts : List ℕ) : Type 0 where
-  pub lC : length cells ≡ length prices * m
-  pub lp : length pairing ≡ length prices
-  pub lw : length discounts ≡ m
-  pub nn : length prices ≤ mostTracks
-  pub mm : m ≤ widest
-  pub cs : (k : ℕ) → k < length cells → IsCell (at cells k)
+  pub cells-long : length cells ≡ length prices * m
+  pub pairing-long : length pairing ≡ length prices
+  pub discounts-long : length discounts ≡ m
+  pub tracks-few : length prices ≤ mostTracks
+  pub reports-few : m ≤ widest
+  pub cells-good : (k : ℕ) → k < length cells → IsCell (at cells k)
 
 -- and what it gives: a certificate, in lists of the same lengths
 pub record Certified (cells : List ℕ) (m n : ℕ) (pairing prices discounts : List ℕ) : Type 0 where
-  pub lp : length pairing ≡ n
-  pub lu : length prices ≡ n
-  pub lw : length discounts ≡ m
+  pub pairing-long : length pairing ≡ n
+  pub prices-long : length prices ≡ n
+  pub discounts-long : length discounts ≡ m
   pub shown : Certificate (sheetOf n m cells) (at pairing) (at prices) (at discounts)

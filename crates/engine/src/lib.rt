@@ -123,11 +123,11 @@ fn visit(
     owner: &mut [u32],
     prices: &mut [u32],
     discounts: &mut [u32],
-    dist: &mut [u32],
-    par: &mut [u32],
-    shut: &mut [u32],
+    labels: &mut [u32],
+    parents: &mut [u32],
+    closings: &mut [u32],
 )
-    requires { ⌜ Visit (now sheet) reports track (now pairing) (now owner) (now prices) (now discounts) (now dist) (now par) (now shut) ⌝ }
+    requires { ⌜ Visit (now sheet) reports track (now pairing) (now owner) (now prices) (now discounts) (now labels) (now parents) (now closings) ⌝ }
     ensures { λ _. ⌜ Inserted (now (sheet .entry)) reports (length (now (prices .entry))) track (now (pairing .entry)) (now (prices .entry)) (now (pairing .exit)) (now (owner .exit)) (now (prices .exit)) (now (discounts .exit)) ⌝ }
 {
     let x = idx(track);
@@ -147,9 +147,9 @@ fn visit(
         owner,
         prices,
         discounts,
-        dist,
-        par,
-        shut,
+        labels,
+        parents,
+        closings,
     );
 }
 
@@ -179,12 +179,12 @@ fn match_all(
     owner: &mut [u32],
     prices: &mut [u32],
     discounts: &mut [u32],
-    dist: &mut [u32],
-    par: &mut [u32],
-    shut: &mut [u32],
+    labels: &mut [u32],
+    parents: &mut [u32],
+    closings: &mut [u32],
     slack: &mut [u32],
 )
-    requires { ⌜ WorkRoom (now sheet) reports (length (now prices)) (now pairing) (now owner) (now prices) (now discounts) (now dist) (now par) (now shut) (now slack) ⌝ }
+    requires { ⌜ WorkRoom (now sheet) reports (length (now prices)) (now pairing) (now owner) (now prices) (now discounts) (now labels) (now parents) (now closings) (now slack) ⌝ }
     ensures { λ _. ⌜ Good (now (sheet .entry)) reports (length (now (prices .entry))) (now (pairing .exit)) (now (owner .exit)) (now (prices .exit)) (now (discounts .exit)) ⌝ }
 {
     clear(sheet, reports, pairing, owner, prices, discounts);
@@ -196,9 +196,9 @@ fn match_all(
         owner,
         prices,
         discounts,
-        dist,
-        par,
-        shut,
+        labels,
+        parents,
+        closings,
         slack,
     );
 }
@@ -210,12 +210,12 @@ fn assign(
     owner: &mut [u32],
     prices: &mut [u32],
     discounts: &mut [u32],
-    dist: &mut [u32],
-    par: &mut [u32],
-    shut: &mut [u32],
+    labels: &mut [u32],
+    parents: &mut [u32],
+    closings: &mut [u32],
     slack: &mut [u32],
 )
-    requires { ⌜ WorkRoom (now sheet) reports (length (now prices)) (now pairing) (now owner) (now prices) (now discounts) (now dist) (now par) (now shut) (now slack) ⌝ }
+    requires { ⌜ WorkRoom (now sheet) reports (length (now prices)) (now pairing) (now owner) (now prices) (now discounts) (now labels) (now parents) (now closings) (now slack) ⌝ }
     ensures { λ _. ⌜ Solved (now (sheet .entry)) reports (length (now (prices .entry))) (now (pairing .exit)) (now (owner .exit)) (now (prices .exit)) (now (discounts .exit)) ⌝ }
 {
     match_all(
@@ -225,9 +225,9 @@ fn assign(
         owner,
         prices,
         discounts,
-        dist,
-        par,
-        shut,
+        labels,
+        parents,
+        closings,
         slack,
     );
     // No track waits by now: this walk shows it.
@@ -241,9 +241,9 @@ fn assign(
             owner,
             prices,
             discounts,
-            dist,
-            par,
-            shut,
+            labels,
+            parents,
+            closings,
         );
         track += 1;
     }
@@ -261,9 +261,9 @@ pub fn pair_cells(
     ensures { λ _. ⌜ Certified (now (sheet .entry)) reports (length (now (prices .entry))) (now (pairing .exit)) (now (prices .exit)) (now (discounts .exit)) ⌝ }
 {
     let mut owner = [0u32; WIDEST];
-    let mut dist = [0u32; WIDEST];
-    let mut par = [0u32; WIDEST];
-    let mut shut = [0u32; WIDEST];
+    let mut labels = [0u32; WIDEST];
+    let mut parents = [0u32; WIDEST];
+    let mut closings = [0u32; WIDEST];
     let mut slack = [0u32; WIDEST];
     assign(
         sheet,
@@ -272,9 +272,9 @@ pub fn pair_cells(
         &mut owner[..reports],
         prices,
         discounts,
-        &mut dist[..reports],
-        &mut par[..reports],
-        &mut shut[..reports],
+        &mut labels[..reports],
+        &mut parents[..reports],
+        &mut closings[..reports],
         &mut slack[..reports],
     );
 }

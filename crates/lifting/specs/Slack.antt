@@ -12,28 +12,28 @@ abbrev pub Small : List ℕ → Type 0
 Small a = (k : ℕ) → k < length a → at a k ≤ leftOut
 
 -- labels, their end d, and slacks
-pub record Slacks (dist : List ℕ) (d : ℕ) (slack : List ℕ) : Type 0 where
-  pub same : length dist ≡ length slack
+pub record Slacks (labels : List ℕ) (d : ℕ) (slack : List ℕ) : Type 0 where
+  pub same : length labels ≡ length slack
   pub end : d ≤ leftOut
-  pub labels : Small dist
+  pub labels-small : Small labels
   pub small : Small slack
 
 -- a row of the sheet whose track has this price, and slacks
 pub record Row (cells : List ℕ) (price : ℕ) (slack : List ℕ) : Type 0 where
   pub same : length cells ≡ length slack
-  pub cs : (k : ℕ) → k < length slack → IsCell (at cells k)
+  pub cells-good : (k : ℕ) → k < length slack → IsCell (at cells k)
   pub top : price ≤ leftOut
   pub small : Small slack
 
 pub record Kept (cells : List ℕ) (price : ℕ) (slack slack' : List ℕ) : Type 0 where
-  pub ls : length slack' ≡ length slack
+  pub slack-long : length slack' ≡ length slack
   pub less : (k : ℕ) → k < length slack → at slack' k ≤ at slack k
   pub room : (k : ℕ) → k < length slack → at cells k < far → at slack' k ≤ at cells k - price
 
-pub record Tightened (dist : List ℕ) (d : ℕ) (slack slack' : List ℕ) : Type 0 where
-  pub ls : length slack' ≡ length slack
+pub record Tightened (labels : List ℕ) (d : ℕ) (slack slack' : List ℕ) : Type 0 where
+  pub slack-long : length slack' ≡ length slack
   pub less : (k : ℕ) → k < length slack → at slack' k ≤ at slack k
-  pub room : (k : ℕ) → k < length slack → at slack' k ≤ at dist k - d
+  pub room : (k : ℕ) → k < length slack → at slack' k ≤ at labels k - d
 
 -- owners beside slacks
 pub record Beside (owner slack : List ℕ) : Type 0 where
@@ -41,11 +41,11 @@ pub record Beside (owner slack : List ℕ) : Type 0 where
   pub small : Small slack
 
 pub record Spent (x : ℕ) (slack slack' : List ℕ) : Type 0 where
-  pub ls : length slack' ≡ length slack
+  pub slack-long : length slack' ≡ length slack
   pub left : (k : ℕ) → k < length slack → at slack' k ≡ at slack k - x
 
 -- a rises by x where the other list has a partner
 pub record Raised (other : List ℕ) (x : ℕ) (a a' : List ℕ) : Type 0 where
-  pub la : length a' ≡ length a
+  pub same-long : length a' ≡ length a
   pub alone : (k : ℕ) → k < length a → at other k ≡ none → at a' k ≡ at a k
   pub paired : (k : ℕ) → k < length a → (at other k ≡ none → ⊥) → at a' k ≡ at a k + x

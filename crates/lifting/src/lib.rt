@@ -54,13 +54,13 @@ pub fn keep(cells: &[u32], price: u32, slack: &mut [u32])
 }
 
 // After a search that ended at d: a track that it went through has risen, and reaches report j as the search did.
-pub fn tighten(dist: &[u32], d: u32, slack: &mut [u32])
-    requires { ⌜ Slacks (now dist) d (now slack) ⌝ }
-    ensures { λ _. ⌜ Tightened (now (dist .entry)) d (now (slack .entry)) (now (slack .exit)) ⌝ }
+pub fn tighten(labels: &[u32], d: u32, slack: &mut [u32])
+    requires { ⌜ Slacks (now labels) d (now slack) ⌝ }
+    ensures { λ _. ⌜ Tightened (now (labels .entry)) d (now (slack .entry)) (now (slack .exit)) ⌝ }
 {
     let mut j: usize = 0;
     while j < slack.len() {
-        slack[j] = low(beyond(dist[j], d), slack[j]);
+        slack[j] = low(beyond(labels[j], d), slack[j]);
         j += 1;
     }
 }

@@ -10,43 +10,43 @@ use Rattle.laws.proofs.Parts.{part, part-length, part-at}
 use Rattle.laws.specs.Lists.{at}
 use Rattle.passes.specs.Cells.{Labels, FromLabels, Nearest}
 
-module _ (lo : ℕ) (dist shut : List ℕ) (cap : ℕ) (F : FromLabels lo dist shut cap) where
+module _ (lo : ℕ) (labels closings : List ℕ) (cap : ℕ) (F : FromLabels lo labels closings cap) where
   abbrev D : List ℕ
-  D = part dist lo (length dist)
+  D = part labels lo (length labels)
 
   abbrev S : List ℕ
-  S = part shut lo (length shut)
+  S = part closings lo (length closings)
 
-  lD : length D ≡ length dist - lo
-  lD = part-length dist lo (length dist) (omega arith)
+  lD : length D ≡ length labels - lo
+  lD = part-length labels lo (length labels) (omega arith)
 
-  lS : length S ≡ length dist - lo
-  lS = part-length shut lo (length shut) (omega arith) ∙ ap (λ (x : ℕ). x - lo) (F .labels .same)
+  lS : length S ≡ length labels - lo
+  lS = part-length closings lo (length closings) (omega arith) ∙ ap (λ (x : ℕ). x - lo) (F .labelled .same)
 
   -- what stands at k in the parts
-  both : (k : ℕ) → k < length dist - lo → at D k + at S k ≡ at dist (lo + k) + at shut (lo + k)
+  both : (k : ℕ) → k < length labels - lo → at D k + at S k ≡ at labels (lo + k) + at closings (lo + k)
   both k h =
-      omega (arith, part-at dist lo (length dist) k (omega arith), part-at shut lo (length shut) k (omega (arith, F .labels .same)))
+      omega (arith, part-at labels lo (length labels) k (omega arith), part-at closings lo (length closings) k (omega (arith, F .labelled .same)))
 
   pub from-labels : Labels D S × (cap < 2 ^ 31)
   from-labels = (
     record {
       same = lS ∙ sym lD;
-      few = omega (arith, lD, F .labels .few);
-      small = λ k h. omega (arith, lD, both k (omega (arith, lD)), F .labels .small (lo + k) (omega (arith, lD)));
+      few = omega (arith, lD, F .labelled .few);
+      small = λ k h. omega (arith, lD, both k (omega (arith, lD)), F .labelled .small (lo + k) (omega (arith, lD)));
     },
     F .capped,
   )
 
   module _ (j : ℕ) (N : Nearest D S cap j) where
     -- a report from lo on, as one of the part
-    later : (k : ℕ) → lo ≤ k → k < length dist → at D (k - lo) + at S (k - lo) ≡ at dist k + at shut k
-    later k l h = both (k - lo) (omega arith) ∙ ap (λ (x : ℕ). at dist x + at shut x) (omega arith)
+    later : (k : ℕ) → lo ≤ k → k < length labels → at D (k - lo) + at S (k - lo) ≡ at labels k + at closings k
+    later k l h = both (k - lo) (omega arith) ∙ ap (λ (x : ℕ). at labels x + at closings x) (omega arith)
 
-    found : lo + j < length dist → at dist (lo + j) + at shut (lo + j) < cap
+    found : lo + j < length labels → at labels (lo + j) + at closings (lo + j) < cap
     found h = omega (arith, both j (omega arith), N .here (omega (arith, lD)))
 
-    pub from-nearest : Nearest dist shut cap (lo + j)
+    pub from-nearest : Nearest labels closings cap (lo + j)
     from-nearest =
         record {
           upto = omega (arith, N .upto, lD, F .upto);

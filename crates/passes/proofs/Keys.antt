@@ -67,13 +67,13 @@ near-low r b x h g = omega arith
 pub near-here : (r b x j : ℕ) → r ≤ b → j < 256 → (x < near → b ≡ x * 256 + j) → (near ≤ x → b ≡ near * 256 + j) → r / 256 ≤ x
 near-here r b x j h s n f = ⊎-elim (λ l. omega (arith, f l)) (λ l. omega (arith, n l)) (le-or-lt near x)
 
-pub near-met : (dist shut : List ℕ) (j r : ℕ) → j < 256 → j < length dist
-    → (at dist j + at shut j < near → r ≡ (at dist j + at shut j) * 256 + j) → (near ≤ at dist j + at shut j → r ≡ near * 256 + j)
-    → r / 256 < near → (r % 256 < length dist) × (at dist (r % 256) + at shut (r % 256) ≡ r / 256)
-near-met dist shut j r s h n f g = ⊎-elim
-    (λ (l : near ≤ at dist j + at shut j). absurd (omega (arith, f l)))
-    (λ (l : at dist j + at shut j < near).
-    let d : r / 256 ≡ at dist j + at shut j = high r (at dist j + at shut j) j (n l) s in
+pub near-met : (labels closings : List ℕ) (j r : ℕ) → j < 256 → j < length labels
+    → (at labels j + at closings j < near → r ≡ (at labels j + at closings j) * 256 + j) → (near ≤ at labels j + at closings j → r ≡ near * 256 + j)
+    → r / 256 < near → (r % 256 < length labels) × (at labels (r % 256) + at closings (r % 256) ≡ r / 256)
+near-met labels closings j r s h n f g = ⊎-elim
+    (λ (l : near ≤ at labels j + at closings j). absurd (omega (arith, f l)))
+    (λ (l : at labels j + at closings j < near).
+    let d : r / 256 ≡ at labels j + at closings j = high r (at labels j + at closings j) j (n l) s in
     let q : r % 256 ≡ j = omega (arith, n l) in
     rw q (h, sym d))
-    (le-or-lt near (at dist j + at shut j))
+    (le-or-lt near (at labels j + at closings j))

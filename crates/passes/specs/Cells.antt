@@ -26,62 +26,62 @@ pub record Step (cell discount d price i od op nd np : ℕ) : Type 0 where
   pub why : ((nd ≡ od) × (np ≡ op)) ⊎ ((cell < far) × ((nd + price ≡ d + cell + discount) × ((nd < od) × (np ≡ i))))
 
 -- what relax asks of its lists
-pub record Fair (cells discounts dist par : List ℕ) (d price : ℕ) : Type 0 where
-  pub lc : length cells ≡ length dist
-  pub lw : length discounts ≡ length dist
-  pub lp : length par ≡ length dist
-  pub cs : (k : ℕ) → k < length dist → IsCell (at cells k)
+pub record Fair (cells discounts labels parents : List ℕ) (d price : ℕ) : Type 0 where
+  pub lc : length cells ≡ length labels
+  pub discounts-long : length discounts ≡ length labels
+  pub parents-long : length parents ≡ length labels
+  pub cells-good : (k : ℕ) → k < length labels → IsCell (at cells k)
   pub du : d ≤ leftOut
   pub uu : price ≤ leftOut
-  pub ww : (k : ℕ) → k < length dist → at discounts k ≤ leftOut
-  pub dd : (k : ℕ) → k < length dist → at dist k ≤ leftOut
-  pub ok : (k : ℕ) → k < length dist → at cells k < far → price ≤ at cells k + at discounts k
+  pub ww : (k : ℕ) → k < length labels → at discounts k ≤ leftOut
+  pub label-in : (k : ℕ) → k < length labels → at labels k ≤ leftOut
+  pub ok : (k : ℕ) → k < length labels → at cells k < far → price ≤ at cells k + at discounts k
 
-pub record Relaxed (cells discounts : List ℕ) (d price i : ℕ) (dist par dist' par' : List ℕ) : Type 0 where
-  pub ld : length dist' ≡ length dist
-  pub lp : length par' ≡ length dist
-  pub steps : (k : ℕ) → k < length dist → Step (at cells k) (at discounts k) d price i (at dist k) (at par k) (at dist' k) (at par' k)
+pub record Relaxed (cells discounts : List ℕ) (d price i : ℕ) (labels parents labels' parents' : List ℕ) : Type 0 where
+  pub labels-long : length labels' ≡ length labels
+  pub parents-long : length parents' ≡ length labels
+  pub steps : (k : ℕ) → k < length labels → Step (at cells k) (at discounts k) d price i (at labels k) (at parents k) (at labels' k) (at parents' k)
 
 -- labels, and a mark a report: 0 while it is open
-pub record Labels (dist shut : List ℕ) : Type 0 where
-  pub same : length shut ≡ length dist
-  pub few : length dist ≤ mostColumns
-  pub small : (k : ℕ) → k < length dist → at dist k + at shut k < 2 ^ 31
+pub record Labels (labels closings : List ℕ) : Type 0 where
+  pub same : length closings ≡ length labels
+  pub few : length labels ≤ mostColumns
+  pub small : (k : ℕ) → k < length labels → at labels k + at closings k < 2 ^ 31
 
 -- and the reports before lo are closed
-pub record FromLabels (lo : ℕ) (dist shut : List ℕ) (cap : ℕ) : Type 0 where
-  pub labels : Labels dist shut
+pub record FromLabels (lo : ℕ) (labels closings : List ℕ) (cap : ℕ) : Type 0 where
+  pub labelled : Labels labels closings
   pub capped : cap < 2 ^ 31
-  pub upto : lo ≤ length dist
-  pub closed : (k : ℕ) → k < lo → cap ≤ at dist k + at shut k
+  pub upto : lo ≤ length labels
+  pub closed : (k : ℕ) → k < lo → cap ≤ at labels k + at closings k
 
 -- r is the least label of an open report, or cap
-pub record Low (dist shut : List ℕ) (cap r : ℕ) : Type 0 where
+pub record Low (labels closings : List ℕ) (cap r : ℕ) : Type 0 where
   pub capped : r ≤ cap
-  pub below : (k : ℕ) → k < length dist → r ≤ at dist k + at shut k
-  pub met : (r ≡ cap) ⊎ ((k : ℕ) × ((k < length dist) × (at dist k + at shut k ≡ r)))
+  pub below : (k : ℕ) → k < length labels → r ≤ at labels k + at closings k
+  pub met : (r ≡ cap) ⊎ ((k : ℕ) × ((k < length labels) × (at labels k + at closings k ≡ r)))
 
 -- the first place of v, or the length
-pub record Found (dist shut : List ℕ) (v r : ℕ) : Type 0 where
-  pub upto : r ≤ length dist
-  pub here : r < length dist → at dist r + at shut r ≡ v
-  pub before : (k : ℕ) → k < r → at dist k + at shut k ≡ v → ⊥
+pub record Found (labels closings : List ℕ) (v r : ℕ) : Type 0 where
+  pub upto : r ≤ length labels
+  pub here : r < length labels → at labels r + at closings r ≡ v
+  pub before : (k : ℕ) → k < r → at labels k + at closings k ≡ v → ⊥
 
 -- a label below this fits one number with its column
 abbrev pub near : ℕ
 near = 8388607
 
 -- r is no more than any label, and below near it is one, with its column
-pub record Near (dist shut : List ℕ) (r : ℕ) : Type 0 where
-  pub below : (k : ℕ) → k < length dist → r / mostColumns ≤ at dist k + at shut k
-  pub met : r / mostColumns < near → (r % mostColumns < length dist) × (at dist (r % mostColumns) + at shut (r % mostColumns) ≡ r / mostColumns)
+pub record Near (labels closings : List ℕ) (r : ℕ) : Type 0 where
+  pub below : (k : ℕ) → k < length labels → r / mostColumns ≤ at labels k + at closings k
+  pub met : r / mostColumns < near → (r % mostColumns < length labels) × (at labels (r % mostColumns) + at closings (r % mostColumns) ≡ r / mostColumns)
 
 -- a nearest open report below cap, or the length
-pub record Nearest (dist shut : List ℕ) (cap j : ℕ) : Type 0 where
-  pub upto : j ≤ length dist
-  pub here : j < length dist → at dist j + at shut j < cap
-  pub least : (k : ℕ) → k < length dist → j < length dist → at dist j + at shut j ≤ at dist k + at shut k
-  pub nobody : (k : ℕ) → k < length dist → length dist ≤ j → cap ≤ at dist k + at shut k
+pub record Nearest (labels closings : List ℕ) (cap j : ℕ) : Type 0 where
+  pub upto : j ≤ length labels
+  pub here : j < length labels → at labels j + at closings j < cap
+  pub least : (k : ℕ) → k < length labels → j < length labels → at labels j + at closings j ≤ at labels k + at closings k
+  pub nobody : (k : ℕ) → k < length labels → length labels ≤ j → cap ≤ at labels k + at closings k
 
 -- ---- the least score of a row
 
@@ -103,22 +103,22 @@ pub record RowLeast (cells : List ℕ) (v a : ℕ) : Type 0 where
 -- ---- prices and discounts after a search that ends at D
 
 -- what raise_rows asks: a report nearer than D is its owner's
-pub record Paid (pairing owner dist prices : List ℕ) (D : ℕ) : Type 0 where
-  pub lo : length owner ≡ length dist
+pub record Paid (pairing owner labels prices : List ℕ) (D : ℕ) : Type 0 where
+  pub owner-long : length owner ≡ length labels
   pub small : (i : ℕ) → i < length prices → at prices i + D < 2 ^ 32
-  pub mine : (i : ℕ) → i < length prices → at pairing i < length dist → at owner (at pairing i) ≡ i
-  pub near : (j : ℕ) → j < length dist → at dist j < D → (at owner j < length prices) × (at pairing (at owner j) ≡ j)
+  pub mine : (i : ℕ) → i < length prices → at pairing i < length labels → at owner (at pairing i) ≡ i
+  pub near : (j : ℕ) → j < length labels → at labels j < D → (at owner j < length prices) × (at pairing (at owner j) ≡ j)
 
 -- x more at o
 pub record Lifted (prices : List ℕ) (o x : ℕ) (prices' : List ℕ) : Type 0 where
-  pub lu : length prices' ≡ length prices
+  pub prices-long : length prices' ≡ length prices
   pub others : (k : ℕ) → (k ≡ o → ⊥) → at prices' k ≡ at prices k
   pub here : at prices' o ≡ at prices o + x
 
-pub record RowsUp (pairing dist : List ℕ) (D : ℕ) (prices prices' : List ℕ) : Type 0 where
-  pub lu : length prices' ≡ length prices
-  pub up : (i : ℕ) → i < length prices → (at pairing i < length dist → at prices' i ≡ at prices i + (D - at dist (at pairing i))) × (length dist ≤ at pairing i → at prices' i ≡ at prices i)
+pub record RowsUp (pairing labels : List ℕ) (D : ℕ) (prices prices' : List ℕ) : Type 0 where
+  pub prices-long : length prices' ≡ length prices
+  pub up : (i : ℕ) → i < length prices → (at pairing i < length labels → at prices' i ≡ at prices i + (D - at labels (at pairing i))) × (length labels ≤ at pairing i → at prices' i ≡ at prices i)
 
-pub record ColsUp (dist : List ℕ) (D : ℕ) (discounts discounts' : List ℕ) : Type 0 where
-  pub lw : length discounts' ≡ length discounts
-  pub up : (j : ℕ) → j < length discounts → at discounts' j ≡ at discounts j + (D - at dist j)
+pub record ColsUp (labels : List ℕ) (D : ℕ) (discounts discounts' : List ℕ) : Type 0 where
+  pub discounts-long : length discounts' ≡ length discounts
+  pub up : (j : ℕ) → j < length discounts → at discounts' j ≡ at discounts j + (D - at labels j)

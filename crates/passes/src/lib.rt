@@ -86,44 +86,44 @@ pub fn relax(
     label: u32,
     price: u32,
     track: u32,
-    dist: &mut [u32],
-    par: &mut [u32],
+    labels: &mut [u32],
+    parents: &mut [u32],
 )
-    requires { ⌜ Fair (now cells) (now discounts) (now dist) (now par) label price ⌝ }
-    ensures { λ r. ⌜ Relaxed (now (cells .entry)) (now (discounts .entry)) label price track (now (dist .entry)) (now (par .entry)) (now (dist .exit)) (now (par .exit)) ⌝ }
+    requires { ⌜ Fair (now cells) (now discounts) (now labels) (now parents) label price ⌝ }
+    ensures { λ r. ⌜ Relaxed (now (cells .entry)) (now (discounts .entry)) label price track (now (labels .entry)) (now (parents .entry)) (now (labels .exit)) (now (parents .exit)) ⌝ }
 {
     let mut j: usize = 0;
-    while j < dist.len() {
+    while j < labels.len() {
         let nd = offer(cells[j], discounts[j], label, price);
-        let od = dist[j];
-        let op = par[j];
-        dist[j] = low(nd, od);
-        par[j] = pick(nd, od, track, op);
+        let od = labels[j];
+        let op = parents[j];
+        labels[j] = low(nd, od);
+        parents[j] = pick(nd, od, track, op);
         j += 1;
     }
 }
 
 // The least label of an open report, or cap.
-fn least(dist: &[u32], shut: &[u32], cap: u32) -> u32
-    requires { ⌜ Labels (now dist) (now shut) × (cap < 2 ^ 31) ⌝ }
-    ensures { λ r. ⌜ Low (now (dist .entry)) (now (shut .entry)) cap r ⌝ }
+fn least(labels: &[u32], closings: &[u32], cap: u32) -> u32
+    requires { ⌜ Labels (now labels) (now closings) × (cap < 2 ^ 31) ⌝ }
+    ensures { λ r. ⌜ Low (now (labels .entry)) (now (closings .entry)) cap r ⌝ }
 {
     let mut best = cap;
     let mut j: usize = 0;
-    while j < dist.len() {
-        best = low(dist[j] + shut[j], best);
+    while j < labels.len() {
+        best = low(labels[j] + closings[j], best);
         j += 1;
     }
     best
 }
 
-fn find(dist: &[u32], shut: &[u32], v: u32) -> usize
-    requires { ⌜ Labels (now dist) (now shut) ⌝ }
-    ensures { λ r. ⌜ Found (now (dist .entry)) (now (shut .entry)) v r ⌝ }
+fn find(labels: &[u32], closings: &[u32], v: u32) -> usize
+    requires { ⌜ Labels (now labels) (now closings) ⌝ }
+    ensures { λ r. ⌜ Found (now (labels .entry)) (now (closings .entry)) v r ⌝ }
 {
     let mut j: usize = 0;
-    while j < dist.len() {
-        let x = dist[j] + shut[j];
+    while j < labels.len() {
+        let x = labels[j] + closings[j];
         if x == v {
             return j;
         }
@@ -133,15 +133,15 @@ fn find(dist: &[u32], shut: &[u32], v: u32) -> usize
 }
 
 // An open report of least label below cap, or the length.
-fn far_nearest(dist: &[u32], shut: &[u32], cap: u32) -> usize
-    requires { ⌜ Labels (now dist) (now shut) × (cap < 2 ^ 31) ⌝ }
-    ensures { λ r. ⌜ Nearest (now (dist .entry)) (now (shut .entry)) cap r ⌝ }
+fn far_nearest(labels: &[u32], closings: &[u32], cap: u32) -> usize
+    requires { ⌜ Labels (now labels) (now closings) × (cap < 2 ^ 31) ⌝ }
+    ensures { λ r. ⌜ Nearest (now (labels .entry)) (now (closings .entry)) cap r ⌝ }
 {
-    let v = least(dist, shut, cap);
+    let v = least(labels, closings, cap);
     if v < cap {
-        find(dist, shut, v)
+        find(labels, closings, v)
     } else {
-        dist.len()
+        labels.len()
     }
 }
 
@@ -153,51 +153,51 @@ fn near_of(label: u32, j: u32) -> u32
     low(label, NEAR) * MOST_COLUMNS + j
 }
 
-fn near_key(dist: &[u32], shut: &[u32]) -> u32
-    requires { ⌜ Labels (now dist) (now shut) ⌝ }
-    ensures { λ r. ⌜ Near (now (dist .entry)) (now (shut .entry)) r ⌝ }
+fn near_key(labels: &[u32], closings: &[u32]) -> u32
+    requires { ⌜ Labels (now labels) (now closings) ⌝ }
+    ensures { λ r. ⌜ Near (now (labels .entry)) (now (closings .entry)) r ⌝ }
 {
     let mut best: u32 = LAST_KEY;
     let mut j: usize = 0;
-    while j < dist.len() {
-        best = low(near_of(dist[j] + shut[j], j as u32), best);
+    while j < labels.len() {
+        best = low(near_of(labels[j] + closings[j], j as u32), best);
         j += 1;
     }
     best
 }
 
 // The same; where a label is near, one pass finds it and its column.
-fn nearest(dist: &[u32], shut: &[u32], cap: u32) -> usize
-    requires { ⌜ Labels (now dist) (now shut) × (cap < 2 ^ 31) ⌝ }
-    ensures { λ r. ⌜ Nearest (now (dist .entry)) (now (shut .entry)) cap r ⌝ }
+fn nearest(labels: &[u32], closings: &[u32], cap: u32) -> usize
+    requires { ⌜ Labels (now labels) (now closings) × (cap < 2 ^ 31) ⌝ }
+    ensures { λ r. ⌜ Nearest (now (labels .entry)) (now (closings .entry)) cap r ⌝ }
 {
-    let k = near_key(dist, shut);
+    let k = near_key(labels, closings);
     let v = k / MOST_COLUMNS;
     if v >= NEAR {
-        return far_nearest(dist, shut, cap);
+        return far_nearest(labels, closings, cap);
     }
     if v >= cap {
-        return dist.len();
+        return labels.len();
     }
     idx(k % MOST_COLUMNS)
 }
 
 // The same from `lo` on, where the reports before are closed.
-pub fn nearest_from(lo: usize, dist: &[u32], shut: &[u32], cap: u32) -> usize
-    requires { ⌜ FromLabels lo (now dist) (now shut) cap ⌝ }
-    ensures { λ r. ⌜ Nearest (now (dist .entry)) (now (shut .entry)) cap r ⌝ }
+pub fn nearest_from(lo: usize, labels: &[u32], closings: &[u32], cap: u32) -> usize
+    requires { ⌜ FromLabels lo (now labels) (now closings) cap ⌝ }
+    ensures { λ r. ⌜ Nearest (now (labels .entry)) (now (closings .entry)) cap r ⌝ }
 {
-    lo + nearest(&dist[lo..], &shut[lo..], cap)
+    lo + nearest(&labels[lo..], &closings[lo..], cap)
 }
 
 // The first open report from `from` on, or the length.
-pub fn open_from(shut: &[u32], from: usize) -> usize
-    requires { ⌜ from ≤ length (now shut) ⌝ }
-    ensures { λ r. ⌜ (from ≤ r) × ((r ≤ length (now (shut .entry))) × ((k : ℕ) → k < r → from ≤ k → at (now (shut .entry)) k ≡ 0 → ⊥)) ⌝ }
+pub fn open_from(closings: &[u32], from: usize) -> usize
+    requires { ⌜ from ≤ length (now closings) ⌝ }
+    ensures { λ r. ⌜ (from ≤ r) × ((r ≤ length (now (closings .entry))) × ((k : ℕ) → k < r → from ≤ k → at (now (closings .entry)) k ≡ 0 → ⊥)) ⌝ }
 {
     let mut j = from;
-    while j < shut.len() {
-        if shut[j] == 0 {
+    while j < closings.len() {
+        if closings[j] == 0 {
             return j;
         }
         j += 1;
@@ -223,25 +223,25 @@ fn topup(prices: &mut [u32], o: u32, x: u32)
 }
 
 // A track whose report lies nearer than d pays the difference. `pairing` is for the contract only.
-pub fn raise_rows(pairing: &[u32], owner: &[u32], dist: &[u32], d: u32, prices: &mut [u32])
-    requires { ⌜ Paid (now pairing) (now owner) (now dist) (now prices) d ⌝ }
-    ensures { λ r. ⌜ RowsUp (now (pairing .entry)) (now (dist .entry)) d (now (prices .entry)) (now (prices .exit)) ⌝ }
+pub fn raise_rows(pairing: &[u32], owner: &[u32], labels: &[u32], d: u32, prices: &mut [u32])
+    requires { ⌜ Paid (now pairing) (now owner) (now labels) (now prices) d ⌝ }
+    ensures { λ r. ⌜ RowsUp (now (pairing .entry)) (now (labels .entry)) d (now (prices .entry)) (now (prices .exit)) ⌝ }
 {
     let mut j: usize = 0;
-    while j < dist.len() {
-        topup(prices, owner[j], over(d, dist[j]));
+    while j < labels.len() {
+        topup(prices, owner[j], over(d, labels[j]));
         j += 1;
     }
 }
 
 // And its report's discount rises by as much.
-pub fn raise_cols(dist: &[u32], d: u32, discounts: &mut [u32])
-    requires { ⌜ (length (now dist) ≡ length (now discounts)) × ((j : ℕ) → j < length (now discounts) → at (now discounts) j + d < 2 ^ 32) ⌝ }
-    ensures { λ r. ⌜ ColsUp (now (dist .entry)) d (now (discounts .entry)) (now (discounts .exit)) ⌝ }
+pub fn raise_cols(labels: &[u32], d: u32, discounts: &mut [u32])
+    requires { ⌜ (length (now labels) ≡ length (now discounts)) × ((j : ℕ) → j < length (now discounts) → at (now discounts) j + d < 2 ^ 32) ⌝ }
+    ensures { λ r. ⌜ ColsUp (now (labels .entry)) d (now (discounts .entry)) (now (discounts .exit)) ⌝ }
 {
     let mut j: usize = 0;
     while j < discounts.len() {
-        discounts[j] = discounts[j] + over(d, dist[j]);
+        discounts[j] = discounts[j] + over(d, labels[j]);
         j += 1;
     }
 }

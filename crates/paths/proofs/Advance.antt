@@ -25,71 +25,71 @@ unfolding zeros
 zeros-all [] f = refl
 zeros-all (x ∷ xs) f = rw (f zero (omega arith)) (omega (arith, zeros-all xs (λ k h. f (suc k) (omega arith))))
 
-module _ (cells : List ℕ) (m n : ℕ) (pairing owner prices discounts : List ℕ) (track leaving leaver k : ℕ) (dist par shut : List ℕ)
+module _ (cells : List ℕ) (m n : ℕ) (pairing owner prices discounts : List ℕ) (track leaving leaver k : ℕ) (labels parents closings : List ℕ)
     (P : Prices cells m n prices discounts)
-    (T : Tree cells m n pairing owner prices discounts track leaving leaver k dist par shut)
-    (j : ℕ) (jm : j < m) (jo : at shut j ≡ 0) (jl : at dist j < leaving)
-    (near : (e : ℕ) → e < m → at shut e ≡ 0 → at dist j ≤ at dist e)
+    (T : Tree cells m n pairing owner prices discounts track leaving leaver k labels parents closings)
+    (j : ℕ) (jm : j < m) (jo : at closings j ≡ 0) (jl : at labels j < leaving)
+    (near : (e : ℕ) → e < m → at closings e ≡ 0 → at labels j ≤ at labels e)
     (own : Own cells m n pairing prices discounts j (at owner j))
     (lv' lrow' : ℕ)
-    (lva : lv' ≤ leaving) (lvb : lv' + at prices (at owner j) ≤ at dist j + leftOut) (lvd : at dist j ≤ lv')
-    (lvw : ((lv' ≡ leaving) × (lrow' ≡ leaver)) ⊎ ((lv' + at prices (at owner j) ≡ at dist j + leftOut) × (lrow' ≡ at owner j)))
-    (dist' par' : List ℕ)
-    (ld' : length dist' ≡ m) (lp' : length par' ≡ m)
-    (steps : (e : ℕ) → e < m → Step (cell cells m (at owner j) e) (at discounts e) (at dist j) (at prices (at owner j)) (at owner j) (at dist e) (at par e) (at dist' e) (at par' e)) where
+    (lva : lv' ≤ leaving) (lvb : lv' + at prices (at owner j) ≤ at labels j + leftOut) (lvd : at labels j ≤ lv')
+    (lvw : ((lv' ≡ leaving) × (lrow' ≡ leaver)) ⊎ ((lv' + at prices (at owner j) ≡ at labels j + leftOut) × (lrow' ≡ at owner j)))
+    (labels' parents' : List ℕ)
+    (ld' : length labels' ≡ m) (lp' : length parents' ≡ m)
+    (steps : (e : ℕ) → e < m → Step (cell cells m (at owner j) e) (at discounts e) (at labels j) (at prices (at owner j)) (at owner j) (at labels e) (at parents e) (at labels' e) (at parents' e)) where
   abbrev o : ℕ
   o = at owner j
 
-  abbrev shut' : List ℕ
-  shut' = set shut j (far + k)
+  abbrev closings' : List ℕ
+  closings' = set closings j (far + k)
 
-  shut-j : at shut' j ≡ far + k
-  shut-j = getD-set-same shut j (far + k) 0 (omega (arith, T .ls))
+  closings-j : at closings' j ≡ far + k
+  closings-j = getD-set-same closings j (far + k) 0 (omega (arith, T .closings-long))
 
-  shut-o : (e : ℕ) → (e ≡ j → ⊥) → at shut' e ≡ at shut e
-  shut-o e h = getD-set-other shut j e (far + k) 0 h
+  closings-o : (e : ℕ) → (e ≡ j → ⊥) → at closings' e ≡ at closings e
+  closings-o e h = getD-set-other closings j e (far + k) 0 h
 
   -- an offer is never below the label of j
-  offered : (e : ℕ) → e < m → (at dist' e ≡ at dist e) ⊎ (at dist j ≤ at dist' e)
-  offered e h = ⊎-elim (λ s. inl (s .0)) (λ s. inr (omega (arith, s .1 .0, P .feas o e (own .there) h (s .0)))) (steps e h .why)
+  offered : (e : ℕ) → e < m → (at labels' e ≡ at labels e) ⊎ (at labels j ≤ at labels' e)
+  offered e h = ⊎-elim (λ s. inl (s .0)) (λ s. inr (omega (arith, s .1 .0, P .fair o e (own .there) h (s .0)))) (steps e h .why)
 
   -- a label at or below j's stays, with its parent
-  stays : (e : ℕ) → e < m → at dist e ≤ at dist j → (at dist' e ≡ at dist e) × (at par' e ≡ at par e)
-  stays e h l = ⊎-elim (λ s. s) (λ s. absurd (omega (arith, s .1 .0, s .1 .1 .0, P .feas o e (own .there) h (s .0)))) (steps e h .why)
+  stays : (e : ℕ) → e < m → at labels e ≤ at labels j → (at labels' e ≡ at labels e) × (at parents' e ≡ at parents e)
+  stays e h l = ⊎-elim (λ s. s) (λ s. absurd (omega (arith, s .1 .0, s .1 .1 .0, P .fair o e (own .there) h (s .0)))) (steps e h .why)
 
   -- what is closed now is j or was closed
-  was : (c : ℕ) → c < m → far ≤ at shut' c → (c ≡ j) ⊎ ((c ≡ j → ⊥) × (far ≤ at shut c))
-  was c h s = ⊎-elim inl (λ d. inr (d, omega (arith, shut-o c d))) (same-or c j)
+  was : (c : ℕ) → c < m → far ≤ at closings' c → (c ≡ j) ⊎ ((c ≡ j → ⊥) × (far ≤ at closings c))
+  was c h s = ⊎-elim inl (λ d. inr (d, omega (arith, closings-o c d))) (same-or c j)
 
-  low-now : (c : ℕ) → c < m → far ≤ at shut' c → at dist c ≤ at dist j
-  low-now c h s = ⊎-elim (λ e. omega (arith, ap (at dist) e)) (λ d. T .sorted c j h jm (d .1) jo) (was c h s)
+  low-now : (c : ℕ) → c < m → far ≤ at closings' c → at labels c ≤ at labels j
+  low-now c h s = ⊎-elim (λ e. omega (arith, ap (at labels) e)) (λ d. T .sorted c j h jm (d .1) jo) (was c h s)
 
-  label : (c : ℕ) → c < m → far ≤ at shut' c → at dist' c ≡ at dist c
+  label : (c : ℕ) → c < m → far ≤ at closings' c → at labels' c ≡ at labels c
   label c h s = stays c h (low-now c h s) .0
 
-  open-was : (e : ℕ) → e < m → at shut' e ≡ 0 → (e ≡ j → ⊥) × (at shut e ≡ 0)
-  open-was e h z = ⊎-elim (λ d. absurd (omega (arith, shut-j, ap (at shut') d))) (λ d. (d, omega (arith, shut-o e d))) (same-or e j)
+  open-was : (e : ℕ) → e < m → at closings' e ≡ 0 → (e ≡ j → ⊥) × (at closings e ≡ 0)
+  open-was e h z = ⊎-elim (λ d. absurd (omega (arith, closings-j, ap (at closings') d))) (λ d. (d, omega (arith, closings-o e d))) (same-or e j)
 
-  label-j : at dist' j ≡ at dist j
+  label-j : at labels' j ≡ at labels j
   label-j = stays j jm (omega arith) .0
 
   -- what was closed is closed, with the same number
-  still : (c : ℕ) → c < m → far ≤ at shut c → at shut' c ≡ at shut c
-  still c h s = shut-o c (λ e. omega (arith, jo, ap (at shut) e))
+  still : (c : ℕ) → c < m → far ≤ at closings c → at closings' c ≡ at closings c
+  still c h s = closings-o c (λ e. omega (arith, jo, ap (at closings) e))
 
-  o-closed : far ≤ at shut' (at pairing o)
-  o-closed = rw (own .back) (omega (arith, shut-j))
+  o-closed : far ≤ at closings' (at pairing o)
+  o-closed = rw (own .back) (omega (arith, closings-j))
 
-  o-label : at dist' (at pairing o) ≡ at dist j
+  o-label : at labels' (at pairing o) ≡ at labels j
   o-label = rw (own .back) label-j
 
-  two' : (e : ℕ) → e < m → (at shut' e ≡ 0) ⊎ ((far ≤ at shut' e) × (at shut' e < far + (k + 1)))
+  two' : (e : ℕ) → e < m → (at closings' e ≡ 0) ⊎ ((far ≤ at closings' e) × (at closings' e < far + (k + 1)))
   two' e h =
-      ⊎-elim (λ d. inr (omega (arith, shut-j, ap (at shut') d), omega (arith, shut-j, ap (at shut') d)))
-      (λ d. ⊎-elim (λ z. inl (omega (arith, shut-o e d))) (λ s. inr (omega (arith, shut-o e d), omega (arith, shut-o e d))) (T .two e h))
+      ⊎-elim (λ d. inr (omega (arith, closings-j, ap (at closings') d), omega (arith, closings-j, ap (at closings') d)))
+      (λ d. ⊎-elim (λ z. inl (omega (arith, closings-o e d))) (λ s. inr (omega (arith, closings-o e d), omega (arith, closings-o e d))) (T .two e h))
       (same-or e j)
 
-  closed-j : Closed cells m n pairing prices discounts lv' dist' j o
+  closed-j : Closed cells m n pairing prices discounts lv' labels' j o
   closed-j = record {
     own = own;
     low = omega (arith, label-j);
@@ -97,7 +97,7 @@ module _ (cells : List ℕ) (m n : ℕ) (pairing owner prices discounts : List �
     leave = omega (arith, label-j);
   }
 
-  closed-c : (c : ℕ) → c < m → far ≤ at shut' c → far ≤ at shut c → Closed cells m n pairing prices discounts lv' dist' c (at owner c)
+  closed-c : (c : ℕ) → c < m → far ≤ at closings' c → far ≤ at closings c → Closed cells m n pairing prices discounts lv' labels' c (at owner c)
   closed-c c h s t =
       let x = T .closed c h t in
       record {
@@ -107,16 +107,16 @@ module _ (cells : List ℕ) (m n : ℕ) (pairing owner prices discounts : List �
         leave = omega (arith, x .leave, label c h s);
       }
 
-  closed' : (c : ℕ) → c < m → far ≤ at shut' c → Closed cells m n pairing prices discounts lv' dist' c (at owner c)
+  closed' : (c : ℕ) → c < m → far ≤ at closings' c → Closed cells m n pairing prices discounts lv' labels' c (at owner c)
   closed' c h s = ⊎-elim (λ d. rw d closed-j) (λ d. closed-c c h s (d .1)) (was c h s)
 
-  sorted' : (c e : ℕ) → c < m → e < m → far ≤ at shut' c → at shut' e ≡ 0 → at dist' c ≤ at dist' e
+  sorted' : (c e : ℕ) → c < m → e < m → far ≤ at closings' c → at closings' e ≡ 0 → at labels' c ≤ at labels' e
   sorted' c e h g s z =
       ⊎-elim (λ d. omega (arith, label c h s, low-now c h s, near e g (open-was e g z .1)))
       (λ d. omega (arith, label c h s, low-now c h s)) (offered e g)
 
   last' : ((lrow' ≡ track) × (lv' + at prices track ≡ leftOut))
-      ⊎ ((lrow' < n) × ((at pairing lrow' < m) × ((far ≤ at shut' (at pairing lrow')) × (lv' + at prices lrow' ≡ at dist' (at pairing lrow') + leftOut))))
+      ⊎ ((lrow' < n) × ((at pairing lrow' < m) × ((far ≤ at closings' (at pairing lrow')) × (lv' + at prices lrow' ≡ at labels' (at pairing lrow') + leftOut))))
   last' =
       ⊎-elim
       (λ p. ⊎-elim (λ a. inl (omega arith, omega arith))
@@ -134,22 +134,22 @@ module _ (cells : List ℕ) (m n : ℕ) (pairing owner prices discounts : List �
       (λ p. inr (rw (p .1) (own .there, (rw (own .back) jm, (o-closed, omega (arith, p .0, o-label))))))
       lvw
 
-  link-old : (c : ℕ) (h : c < m) → at dist' c ≡ at dist c → (i : ℕ) → Link cells m n pairing prices discounts track dist shut c i → Link cells m n pairing prices discounts track dist' shut' c i
+  link-old : (c : ℕ) (h : c < m) → at labels' c ≡ at labels c → (i : ℕ) → Link cells m n pairing prices discounts track labels closings c i → Link cells m n pairing prices discounts track labels' closings' c i
   link-old c h same i x = record {
     there = x .there;
-    adm = x .adm;
+    admissible = x .admissible;
     how = ⊎-elim (λ a. inl (a .0, omega (arith, a .1)))
         (λ a.
         let q = still (at pairing i) (a .0) (a .1 .0) in
-        let f : far ≤ at shut' (at pairing i) = omega (arith, a .1 .0) in
+        let f : far ≤ at closings' (at pairing i) = omega (arith, a .1 .0) in
         inr (
           a .0,
           (
             f,
             (
               ⊎-elim
-                  (λ d. inr (⊎-elim (λ z. absurd (omega arith)) (λ b. omega (arith, shut-j, ap (at shut') d)) (T .two (at pairing i) (a .0))))
-                  (λ d. ⊎-elim (λ z. inl (omega (arith, shut-o c d))) (λ b. inr (omega (arith, shut-o c d))) (a .1 .1 .0))
+                  (λ d. inr (⊎-elim (λ z. absurd (omega arith)) (λ b. omega (arith, closings-j, ap (at closings') d)) (T .two (at pairing i) (a .0))))
+                  (λ d. ⊎-elim (λ z. inl (omega (arith, closings-o c d))) (λ b. inr (omega (arith, closings-o c d))) (a .1 .1 .0))
                   (same-or c j),
               omega (arith, a .1 .1 .1, label (at pairing i) (a .0) f),
             ),
@@ -158,11 +158,11 @@ module _ (cells : List ℕ) (m n : ℕ) (pairing owner prices discounts : List �
         (x .how);
   }
 
-  link-new : (c : ℕ) → c < m → cell cells m o c < far → at dist' c + at prices o ≡ at dist j + cell cells m o c + at discounts c → at dist' c < at dist c
-      → Link cells m n pairing prices discounts track dist' shut' c o
+  link-new : (c : ℕ) → c < m → cell cells m o c < far → at labels' c + at prices o ≡ at labels j + cell cells m o c + at discounts c → at labels' c < at labels c
+      → Link cells m n pairing prices discounts track labels' closings' c o
   link-new c h a e l = record {
     there = own .there;
-    adm = a;
+    admissible = a;
     how = inr (
       rw (own .back) jm,
       (
@@ -175,25 +175,25 @@ module _ (cells : List ℕ) (m n : ℕ) (pairing owner prices discounts : List �
     );
   }
 
-  links' : (c : ℕ) → c < m → at dist' c < leftOut → Link cells m n pairing prices discounts track dist' shut' c (at par' c)
+  links' : (c : ℕ) → c < m → at labels' c < leftOut → Link cells m n pairing prices discounts track labels' closings' c (at parents' c)
   links' c h l =
-      ⊎-elim (λ s. rw (s .1) (link-old c h (s .0) (at par c) (T .links c h (omega (arith, s .0)))))
+      ⊎-elim (λ s. rw (s .1) (link-old c h (s .0) (at parents c) (T .links c h (omega (arith, s .0)))))
       (λ s. rw (s .1 .1 .1) (link-new c h (s .0) (s .1 .0) (s .1 .1 .0)))
       (steps c h .why)
 
-  pub advance : Tree cells m n pairing owner prices discounts track lv' lrow' (k + 1) dist' par' shut'
+  pub advance : Tree cells m n pairing owner prices discounts track lv' lrow' (k + 1) labels' parents' closings'
   advance = record {
-    ld = ld';
-    lpar = lp';
-    ls = simp length-set (T .ls);
+    labels-long = ld';
+    parents-long = lp';
+    closings-long = simp length-set (T .closings-long);
     cap = λ e h. omega (arith, steps e h .less, T .cap e h);
     two = two';
     root = λ e h a. omega (arith, T .root e h a, steps e h .less);
     closed = closed';
     sorted = sorted';
-    under = λ c h s. omega (arith, label c h s, low-now c h s, T .lvr);
-    lvr = omega (arith, T .lvr);
+    under = λ c h s. omega (arith, label c h s, low-now c h s, T .leaving-in);
+    leaving-in = omega (arith, T .leaving-in);
     last = last';
     links = links';
-    count = omega (arith, T .count, zeros-set shut j (far + k) (omega (arith, T .ls)) jo (omega arith));
+    count = omega (arith, T .count, zeros-set closings j (far + k) (omega (arith, T .closings-long)) jo (omega arith));
   }

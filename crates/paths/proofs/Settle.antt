@@ -12,28 +12,28 @@ use Rattle.paths.specs.State.{Flips, Flipped, Finishable, Settled}
 use Rattle.laws.proofs.Stores.{same-or}
 use Rattle.paths.proofs.Swap.{gone, stays, vacated, shape1, chain-set}
 
-module _ (cells : List ℕ) (m n : ℕ) (prices discounts : List ℕ) (track : ℕ) (par shut : List ℕ) (report leaver : ℕ) (pairing owner : List ℕ)
-    (T : Finishable cells m n prices discounts track par shut report leaver pairing owner) where
+module _ (cells : List ℕ) (m n : ℕ) (prices discounts : List ℕ) (track : ℕ) (parents closings : List ℕ) (report leaver : ℕ) (pairing owner : List ℕ)
+    (T : Finishable cells m n prices discounts track parents closings report leaver pairing owner) where
   module _ (cn : report ≡ none → ⊥) where
-    at-col : (report < m) × ((at owner report ≡ none) × (far ≤ at shut report))
+    at-col : (report < m) × ((at owner report ≡ none) × (far ≤ at closings report))
     at-col = ⊎-elim (λ x. x) (λ x. absurd (cn (x .0))) (T .end)
 
-    pub flips-col : Flips cells m n prices discounts track par shut pairing owner pairing owner report
+    pub flips-col : Flips cells m n prices discounts track parents closings pairing owner pairing owner report
     flips-col = record {
       shape = T .shape;
       moved = record { from = λ i h l. inl l; free = λ j h z. z };
-      lpar = T .lpar;
-      ls = T .ls;
-      rr = T .rr;
+      parents-long = T .parents-long;
+      closings-long = T .closings-long;
+      track-in = T .track-in;
       kept = λ i h l. l;
       state = inl (record {
-        hm = at-col .0;
-        hc = at-col .1 .1;
+        hole-in = at-col .0;
+        hole-closed = at-col .1 .1;
         M = record {
-          owned = λ j h d. T .M .owned j h (λ e. omega (arith, T .shape .mm));
-          paired = λ i h. ⊎-elim inl (λ a. inr (a .0, ((λ e. omega (arith, sym (a .1 .1) ∙ ap (at owner) e ∙ at-col .1 .0, T .shape .nn)), a .1 .1))) (T .M .paired i h);
+          owned = λ j h d. T .M .owned j h (λ e. omega (arith, T .shape .reports-few));
+          paired = λ i h. ⊎-elim inl (λ a. inr (a .0, ((λ e. omega (arith, sym (a .1 .1) ∙ ap (at owner) e ∙ at-col .1 .0, T .shape .tracks-few)), a .1 .1))) (T .M .paired i h);
         };
-        ch = T .chain (at shut report);
+        chain = T .chain (at closings report);
         rp = T .rp;
       });
     }
@@ -48,8 +48,8 @@ module _ (cells : List ℕ) (m n : ℕ) (prices discounts : List ℕ) (track : �
     }
 
   module _ (cz : report ≡ none) where
-    at-row : ((leaver ≡ track) × (at prices track ≡ leftOut)) ⊎ ((leaver < n) × ((at pairing leaver < m) × ((far ≤ at shut (at pairing leaver)) × (at prices leaver ≡ leftOut))))
-    at-row = ⊎-elim (λ x. absurd (omega (arith, x .0, T .shape .mm))) (λ x. x .1) (T .end)
+    at-row : ((leaver ≡ track) × (at prices track ≡ leftOut)) ⊎ ((leaver < n) × ((at pairing leaver < m) × ((far ≤ at closings (at pairing leaver)) × (at prices leaver ≡ leftOut))))
+    at-row = ⊎-elim (λ x. absurd (omega (arith, x .0, T .shape .reports-few))) (λ x. x .1) (T .end)
 
     pub settled-r : leaver ≡ track → Settled cells m n prices discounts track pairing owner pairing owner
     settled-r e = record {
@@ -57,11 +57,11 @@ module _ (cells : List ℕ) (m n : ℕ) (prices discounts : List ℕ) (track : �
       moved = record { from = λ i h l. inl l; free = λ j h z. z };
       M = T .M;
       done = λ i h l. inl l;
-      done-r = ⊎-elim (λ x. inr (x .1)) (λ x. absurd (omega (arith, x .1 .0, ap (at pairing) e, T .rp, T .shape .mm))) at-row;
+      done-r = ⊎-elim (λ x. inr (x .1)) (λ x. absurd (omega (arith, x .1 .0, ap (at pairing) e, T .rp, T .shape .reports-few))) at-row;
     }
 
     module _ (rn : leaver ≡ track → ⊥) where
-      pub left-out : (leaver < n) × ((at pairing leaver < m) × ((far ≤ at shut (at pairing leaver)) × (at prices leaver ≡ leftOut)))
+      pub left-out : (leaver < n) × ((at pairing leaver < m) × ((far ≤ at closings (at pairing leaver)) × (at prices leaver ≡ leftOut)))
       left-out = ⊎-elim (λ x. absurd (rn (x .0))) (λ x. x) at-row
 
       abbrev pairing1 : List ℕ
@@ -73,24 +73,24 @@ module _ (cells : List ℕ) (m n : ℕ) (prices discounts : List ℕ) (track : �
       pair1-o : (k : ℕ) → (k ≡ leaver → ⊥) → at pairing1 k ≡ at pairing k
       pair1-o = stays cells m n prices discounts pairing owner (T .shape) (T .M) leaver (left-out .0) (left-out .1 .0)
 
-      flips-0 : Flips cells m n prices discounts track par shut pairing1 owner pairing1 owner (at pairing leaver)
+      flips-0 : Flips cells m n prices discounts track parents closings pairing1 owner pairing1 owner (at pairing leaver)
       flips-0 = record {
         shape = shape1 cells m n prices discounts pairing owner (T .shape) (T .M) leaver (left-out .0) (left-out .1 .0);
         moved = record { from = λ i h l. inl l; free = λ j h z. z };
-        lpar = T .lpar;
-        ls = T .ls;
-        rr = T .rr;
+        parents-long = T .parents-long;
+        closings-long = T .closings-long;
+        track-in = T .track-in;
         kept = λ i h l. l;
         state = inl (record {
-          hm = left-out .1 .0;
-          hc = left-out .1 .1 .0;
+          hole-in = left-out .1 .0;
+          hole-closed = left-out .1 .1 .0;
           M = vacated cells m n prices discounts pairing owner (T .shape) (T .M) leaver (left-out .0) (left-out .1 .0);
-          ch = chain-set cells m n prices discounts pairing track par shut leaver none (at shut (at pairing leaver)) (T .chain (at shut (at pairing leaver))) (omega arith);
+          chain = chain-set cells m n prices discounts pairing track parents closings leaver none (at closings (at pairing leaver)) (T .chain (at closings (at pairing leaver))) (omega arith);
           rp = pair1-o track (λ q. rn (sym q)) ∙ T .rp;
         });
       }
 
-      pub flips-row : (t : ℕ) → t ≡ leaver → Flips cells m n prices discounts track par shut (set pairing t none) owner (set pairing t none) owner (at pairing t)
+      pub flips-row : (t : ℕ) → t ≡ leaver → Flips cells m n prices discounts track parents closings (set pairing t none) owner (set pairing t none) owner (at pairing t)
       flips-row t e = rw e flips-0
 
       pub settled-row : (t : ℕ) → t ≡ leaver → (pairing' owner' : List ℕ) → Flipped cells m n prices discounts track (set pairing t none) owner pairing' owner' → Settled cells m n prices discounts track pairing owner pairing' owner'
@@ -99,7 +99,7 @@ module _ (cells : List ℕ) (m n : ℕ) (prices discounts : List ℕ) (track : �
           record {
             shape = G .shape;
             moved = record {
-              from = λ i h l. ⊎-elim (λ a. ⊎-elim (λ q. absurd (omega (arith, ap (at pairing1) q, pair1-row, T .shape .mm))) (λ d. inl (omega (arith, pair1-o i d))) (same-or i leaver)) inr (G .moved .from i h l);
+              from = λ i h l. ⊎-elim (λ a. ⊎-elim (λ q. absurd (omega (arith, ap (at pairing1) q, pair1-row, T .shape .reports-few))) (λ d. inl (omega (arith, pair1-o i d))) (same-or i leaver)) inr (G .moved .from i h l);
               free = G .moved .free;
             };
             M = G .whole .M;

@@ -28,26 +28,26 @@ zeros (x ∷ xs) = isZero x + zeros xs
 
 -- the lengths, and each cell a score or none
 pub record Shape (cells : List ℕ) (m n : ℕ) (pairing owner prices discounts : List ℕ) : Type 0 where
-  pub lC : length cells ≡ n * m
-  pub lp : length pairing ≡ n
-  pub lo : length owner ≡ m
-  pub lu : length prices ≡ n
-  pub lw : length discounts ≡ m
-  pub nn : n ≤ mostTracks
-  pub mm : m ≤ widest
-  pub cs : (k : ℕ) → k < length cells → IsCell (at cells k)
+  pub cells-long : length cells ≡ n * m
+  pub pairing-long : length pairing ≡ n
+  pub owner-long : length owner ≡ m
+  pub prices-long : length prices ≡ n
+  pub discounts-long : length discounts ≡ m
+  pub tracks-few : n ≤ mostTracks
+  pub reports-few : m ≤ widest
+  pub cells-good : (k : ℕ) → k < length cells → IsCell (at cells k)
 
 -- no price less discount above a score
 pub record Prices (cells : List ℕ) (m n : ℕ) (prices discounts : List ℕ) : Type 0 where
-  pub feas : (i j : ℕ) → i < n → j < m → cell cells m i j < far → at prices i ≤ cell cells m i j + at discounts j
-  pub um : (i : ℕ) → i < n → at prices i ≤ leftOut
-  pub wm : (j : ℕ) → j < m → at discounts j ≤ leftOut
+  pub fair : (i j : ℕ) → i < n → j < m → cell cells m i j < far → at prices i ≤ cell cells m i j + at discounts j
+  pub price-in : (i : ℕ) → i < n → at prices i ≤ leftOut
+  pub discount-in : (j : ℕ) → j < m → at discounts j ≤ leftOut
 
 -- report j is track i's, and its price less discount is the score
 pub record Own (cells : List ℕ) (m n : ℕ) (pairing prices discounts : List ℕ) (j i : ℕ) : Type 0 where
   pub there : i < n
   pub back : at pairing i ≡ j
-  pub adm : cell cells m i j < far
+  pub admissible : cell cells m i j < far
   pub tight : at prices i ≡ cell cells m i j + at discounts j
 
 -- pairing and owner agree, but for the report h (none: no hole); a report that no track has is without discount
@@ -56,98 +56,98 @@ pub record Match (cells : List ℕ) (m n : ℕ) (pairing owner prices discounts 
   pub paired : (i : ℕ) → i < n → (at pairing i ≡ none) ⊎ ((at pairing i < m) × ((at pairing i ≡ h → ⊥) × (at owner (at pairing i) ≡ i)))
 
 -- a closed report c of track i: the search has gone through it
-pub record Closed (cells : List ℕ) (m n : ℕ) (pairing prices discounts : List ℕ) (leaving : ℕ) (dist : List ℕ) (c i : ℕ) : Type 0 where
+pub record Closed (cells : List ℕ) (m n : ℕ) (pairing prices discounts : List ℕ) (leaving : ℕ) (labels : List ℕ) (c i : ℕ) : Type 0 where
   pub own : Own cells m n pairing prices discounts c i
-  pub low : at dist c ≤ leaving
-  pub seen : (j : ℕ) → j < m → cell cells m i j < far → at prices i + at dist j ≤ at dist c + cell cells m i j + at discounts j
-  pub leave : leaving + at prices i ≤ at dist c + leftOut
+  pub low : at labels c ≤ leaving
+  pub seen : (j : ℕ) → j < m → cell cells m i j < far → at prices i + at labels j ≤ at labels c + cell cells m i j + at discounts j
+  pub leave : leaving + at prices i ≤ at labels c + leftOut
 
 -- how report c was reached, from track i
-pub record Link (cells : List ℕ) (m n : ℕ) (pairing prices discounts : List ℕ) (track : ℕ) (dist shut : List ℕ) (c i : ℕ) : Type 0 where
+pub record Link (cells : List ℕ) (m n : ℕ) (pairing prices discounts : List ℕ) (track : ℕ) (labels closings : List ℕ) (c i : ℕ) : Type 0 where
   pub there : i < n
-  pub adm : cell cells m i c < far
-  pub how : ((i ≡ track) × (at dist c + at prices track ≡ cell cells m i c + at discounts c))
-      ⊎ ((at pairing i < m) × ((far ≤ at shut (at pairing i)) × (((at shut c ≡ 0) ⊎ (at shut (at pairing i) < at shut c))
-      × (at dist c + at prices i ≡ at dist (at pairing i) + cell cells m i c + at discounts c))))
+  pub admissible : cell cells m i c < far
+  pub how : ((i ≡ track) × (at labels c + at prices track ≡ cell cells m i c + at discounts c))
+      ⊎ ((at pairing i < m) × ((far ≤ at closings (at pairing i)) × (((at closings c ≡ 0) ⊎ (at closings (at pairing i) < at closings c))
+      × (at labels c + at prices i ≡ at labels (at pairing i) + cell cells m i c + at discounts c))))
 
 -- the search from a track: labels, parents, and the order in which reports were closed
-pub record Tree (cells : List ℕ) (m n : ℕ) (pairing owner prices discounts : List ℕ) (track leaving leaver k : ℕ) (dist par shut : List ℕ) : Type 0 where
-  pub ld : length dist ≡ m
-  pub lpar : length par ≡ m
-  pub ls : length shut ≡ m
-  pub cap : (j : ℕ) → j < m → at dist j ≤ leftOut
-  pub two : (j : ℕ) → j < m → (at shut j ≡ 0) ⊎ ((far ≤ at shut j) × (at shut j < far + k))
-  pub root : (j : ℕ) → j < m → cell cells m track j < far → at prices track + at dist j ≤ cell cells m track j + at discounts j
-  pub closed : (c : ℕ) → c < m → far ≤ at shut c → Closed cells m n pairing prices discounts leaving dist c (at owner c)
-  pub sorted : (c e : ℕ) → c < m → e < m → far ≤ at shut c → at shut e ≡ 0 → at dist c ≤ at dist e
-  pub under : (c : ℕ) → c < m → far ≤ at shut c → at dist c < leftOut
-  pub lvr : leaving + at prices track ≤ leftOut
+pub record Tree (cells : List ℕ) (m n : ℕ) (pairing owner prices discounts : List ℕ) (track leaving leaver k : ℕ) (labels parents closings : List ℕ) : Type 0 where
+  pub labels-long : length labels ≡ m
+  pub parents-long : length parents ≡ m
+  pub closings-long : length closings ≡ m
+  pub cap : (j : ℕ) → j < m → at labels j ≤ leftOut
+  pub two : (j : ℕ) → j < m → (at closings j ≡ 0) ⊎ ((far ≤ at closings j) × (at closings j < far + k))
+  pub root : (j : ℕ) → j < m → cell cells m track j < far → at prices track + at labels j ≤ cell cells m track j + at discounts j
+  pub closed : (c : ℕ) → c < m → far ≤ at closings c → Closed cells m n pairing prices discounts leaving labels c (at owner c)
+  pub sorted : (c e : ℕ) → c < m → e < m → far ≤ at closings c → at closings e ≡ 0 → at labels c ≤ at labels e
+  pub under : (c : ℕ) → c < m → far ≤ at closings c → at labels c < leftOut
+  pub leaving-in : leaving + at prices track ≤ leftOut
   pub last : ((leaver ≡ track) × (leaving + at prices track ≡ leftOut))
-      ⊎ ((leaver < n) × ((at pairing leaver < m) × ((far ≤ at shut (at pairing leaver)) × (leaving + at prices leaver ≡ at dist (at pairing leaver) + leftOut))))
-  pub links : (c : ℕ) → c < m → at dist c < leftOut → Link cells m n pairing prices discounts track dist shut c (at par c)
-  pub count : k + zeros shut ≡ m
+      ⊎ ((leaver < n) × ((at pairing leaver < m) × ((far ≤ at closings (at pairing leaver)) × (leaving + at prices leaver ≡ at labels (at pairing leaver) + leftOut))))
+  pub links : (c : ℕ) → c < m → at labels c < leftOut → Link cells m n pairing prices discounts track labels closings c (at parents c)
+  pub count : k + zeros closings ≡ m
 
-pub record Scanned (cells : List ℕ) (m : ℕ) (discounts : List ℕ) (d ui i : ℕ) (dist par dist' par' : List ℕ) : Type 0 where
-  pub ld : length dist' ≡ m
-  pub lp : length par' ≡ m
-  pub steps : (e : ℕ) → e < m → Step (cell cells m i e) (at discounts e) d ui i (at dist e) (at par e) (at dist' e) (at par' e)
+pub record Scanned (cells : List ℕ) (m : ℕ) (discounts : List ℕ) (d ui i : ℕ) (labels parents labels' parents' : List ℕ) : Type 0 where
+  pub labels-long : length labels' ≡ m
+  pub parents-long : length parents' ≡ m
+  pub steps : (e : ℕ) → e < m → Step (cell cells m i e) (at discounts e) d ui i (at labels e) (at parents e) (at labels' e) (at parents' e)
 
 -- what scan asks: the reports before lo are closed
-pub record Scannable (cells : List ℕ) (m lo i d : ℕ) (prices discounts dist par : List ℕ) : Type 0 where
-  pub lom : lo ≤ m
-  pub before : (e : ℕ) → e < lo → at dist e ≤ d
+pub record Scannable (cells : List ℕ) (m lo i d : ℕ) (prices discounts labels parents : List ℕ) : Type 0 where
+  pub first-in : lo ≤ m
+  pub before : (e : ℕ) → e < lo → at labels e ≤ d
   pub ii : i < length prices
-  pub lC : length cells ≡ length prices * m
-  pub cs : (k : ℕ) → k < length cells → IsCell (at cells k)
-  pub lw : length discounts ≡ m
-  pub ld : length dist ≡ m
-  pub lp : length par ≡ m
-  pub dd : d ≤ leftOut
+  pub cells-long : length cells ≡ length prices * m
+  pub cells-good : (k : ℕ) → k < length cells → IsCell (at cells k)
+  pub discounts-long : length discounts ≡ m
+  pub labels-long : length labels ≡ m
+  pub parents-long : length parents ≡ m
+  pub label-in : d ≤ leftOut
   pub P : Prices cells m (length prices) prices discounts
-  pub cap : (j : ℕ) → j < m → at dist j ≤ leftOut
+  pub cap : (j : ℕ) → j < m → at labels j ≤ leftOut
 
 -- what search asks: a track that is in no pair
-pub record Searchable (cells : List ℕ) (m track : ℕ) (pairing owner prices discounts dist par shut : List ℕ) : Type 0 where
+pub record Searchable (cells : List ℕ) (m track : ℕ) (pairing owner prices discounts labels parents closings : List ℕ) : Type 0 where
   pub shape : Shape cells m (length prices) pairing owner prices discounts
   pub P : Prices cells m (length prices) prices discounts
   pub M : Match cells m (length prices) pairing owner prices discounts none
-  pub rr : track < length prices
+  pub track-in : track < length prices
   pub rp : at pairing track ≡ none
-  pub ld : length dist ≡ m
-  pub lpar : length par ≡ m
-  pub ls : length shut ≡ m
+  pub labels-long : length labels ≡ m
+  pub parents-long : length parents ≡ m
+  pub closings-long : length closings ≡ m
 
 -- what a search finds: labels, and D, at which a free report is reached or a track is left out
-pub record Ended (cells : List ℕ) (m n : ℕ) (pairing owner prices discounts : List ℕ) (track D report leaver : ℕ) (dist par shut : List ℕ) : Type 0 where
-  pub ld : length dist ≡ m
-  pub cap : (j : ℕ) → j < m → at dist j ≤ leftOut
-  pub lpar : length par ≡ m
-  pub ls : length shut ≡ m
-  pub root : (j : ℕ) → j < m → cell cells m track j < far → at prices track + at dist j ≤ cell cells m track j + at discounts j
+pub record Ended (cells : List ℕ) (m n : ℕ) (pairing owner prices discounts : List ℕ) (track D report leaver : ℕ) (labels parents closings : List ℕ) : Type 0 where
+  pub labels-long : length labels ≡ m
+  pub cap : (j : ℕ) → j < m → at labels j ≤ leftOut
+  pub parents-long : length parents ≡ m
+  pub closings-long : length closings ≡ m
+  pub root : (j : ℕ) → j < m → cell cells m track j < far → at prices track + at labels j ≤ cell cells m track j + at discounts j
   pub dr : D + at prices track ≤ leftOut
-  pub near : (c : ℕ) → c < m → at dist c < D → Closed cells m n pairing prices discounts D dist c (at owner c)
-  pub low : (c : ℕ) → c < m → far ≤ at shut c → at dist c ≤ D
-  pub links : (c : ℕ) → c < m → far ≤ at shut c → Link cells m n pairing prices discounts track dist shut c (at par c)
-  pub end : ((report < m) × ((at owner report ≡ none) × ((far ≤ at shut report) × (at dist report ≡ D))))
+  pub near : (c : ℕ) → c < m → at labels c < D → Closed cells m n pairing prices discounts D labels c (at owner c)
+  pub low : (c : ℕ) → c < m → far ≤ at closings c → at labels c ≤ D
+  pub links : (c : ℕ) → c < m → far ≤ at closings c → Link cells m n pairing prices discounts track labels closings c (at parents c)
+  pub end : ((report < m) × ((at owner report ≡ none) × ((far ≤ at closings report) × (at labels report ≡ D))))
       ⊎ ((report ≡ none) × (((leaver ≡ track) × (D + at prices track ≡ leftOut))
-      ⊎ ((leaver < n) × ((at pairing leaver < m) × ((far ≤ at shut (at pairing leaver)) × (D + at prices leaver ≡ at dist (at pairing leaver) + leftOut))))))
+      ⊎ ((leaver < n) × ((at pairing leaver < m) × ((far ≤ at closings (at pairing leaver)) × (D + at prices leaver ≡ at labels (at pairing leaver) + leftOut))))))
 
 -- the reports on the way back: each is tight at its parent, and its parent's report comes earlier
-pub record Tight (cells : List ℕ) (m n : ℕ) (pairing prices discounts : List ℕ) (track : ℕ) (shut : List ℕ) (c i : ℕ) : Type 0 where
+pub record Tight (cells : List ℕ) (m n : ℕ) (pairing prices discounts : List ℕ) (track : ℕ) (closings : List ℕ) (c i : ℕ) : Type 0 where
   pub there : i < n
-  pub adm : cell cells m i c < far
+  pub admissible : cell cells m i c < far
   pub tight : at prices i ≡ cell cells m i c + at discounts c
-  pub next : (i ≡ track) ⊎ ((at pairing i < m) × ((far ≤ at shut (at pairing i)) × (at shut (at pairing i) < at shut c)))
+  pub next : (i ≡ track) ⊎ ((at pairing i < m) × ((far ≤ at closings (at pairing i)) × (at closings (at pairing i) < at closings c)))
 
-pub record Chain (cells : List ℕ) (m n : ℕ) (pairing prices discounts : List ℕ) (track : ℕ) (par shut : List ℕ) (bound : ℕ) : Type 0 where
-  pub step : (c : ℕ) → c < m → far ≤ at shut c → at shut c ≤ bound → Tight cells m n pairing prices discounts track shut c (at par c)
+pub record Chain (cells : List ℕ) (m n : ℕ) (pairing prices discounts : List ℕ) (track : ℕ) (parents closings : List ℕ) (bound : ℕ) : Type 0 where
+  pub step : (c : ℕ) → c < m → far ≤ at closings c → at closings c ≤ bound → Tight cells m n pairing prices discounts track closings c (at parents c)
 
 -- a hole at h, to be filled along the chain
-pub record Holed (cells : List ℕ) (m n : ℕ) (prices discounts : List ℕ) (track : ℕ) (par shut pairing owner : List ℕ) (h : ℕ) : Type 0 where
-  pub hm : h < m
-  pub hc : far ≤ at shut h
+pub record Holed (cells : List ℕ) (m n : ℕ) (prices discounts : List ℕ) (track : ℕ) (parents closings pairing owner : List ℕ) (h : ℕ) : Type 0 where
+  pub hole-in : h < m
+  pub hole-closed : far ≤ at closings h
   pub M : Match cells m n pairing owner prices discounts h
-  pub ch : Chain cells m n pairing prices discounts track par shut (at shut h)
+  pub chain : Chain cells m n pairing prices discounts track parents closings (at closings h)
   pub rp : at pairing track ≡ none
 
 -- the hole is filled
@@ -160,14 +160,14 @@ pub record Moved (m n track : ℕ) (pairing owner pairing' owner' : List ℕ) : 
   pub from : (i : ℕ) → i < n → at pairing' i < m → (at pairing i < m) ⊎ (i ≡ track)
   pub free : (j : ℕ) → j < m → at owner' j ≡ none → at owner j ≡ none
 
-pub record Flips (cells : List ℕ) (m n : ℕ) (prices discounts : List ℕ) (track : ℕ) (par shut pairing0 owner0 pairing owner : List ℕ) (h : ℕ) : Type 0 where
+pub record Flips (cells : List ℕ) (m n : ℕ) (prices discounts : List ℕ) (track : ℕ) (parents closings pairing0 owner0 pairing owner : List ℕ) (h : ℕ) : Type 0 where
   pub shape : Shape cells m n pairing owner prices discounts
   pub moved : Moved m n track pairing0 owner0 pairing owner
-  pub lpar : length par ≡ m
-  pub ls : length shut ≡ m
-  pub rr : track < n
+  pub parents-long : length parents ≡ m
+  pub closings-long : length closings ≡ m
+  pub track-in : track < n
   pub kept : (i : ℕ) → i < n → at pairing0 i < m → at pairing i < m
-  pub state : Holed cells m n prices discounts track par shut pairing owner h ⊎ ((h ≡ none) × Unbroken cells m n prices discounts track pairing owner)
+  pub state : Holed cells m n prices discounts track parents closings pairing owner h ⊎ ((h ≡ none) × Unbroken cells m n prices discounts track pairing owner)
 
 pub record Flipped (cells : List ℕ) (m n : ℕ) (prices discounts : List ℕ) (track : ℕ) (pairing owner pairing' owner' : List ℕ) : Type 0 where
   pub shape : Shape cells m n pairing' owner' prices discounts
@@ -181,17 +181,17 @@ pub record Good (cells : List ℕ) (m n : ℕ) (pairing owner prices discounts :
   pub M : Match cells m n pairing owner prices discounts none
 
 -- the pairing is to be changed along the chain that ends in a free report, or in a track that is left out
-pub record Finishable (cells : List ℕ) (m n : ℕ) (prices discounts : List ℕ) (track : ℕ) (par shut : List ℕ) (report leaver : ℕ) (pairing owner : List ℕ) : Type 0 where
+pub record Finishable (cells : List ℕ) (m n : ℕ) (prices discounts : List ℕ) (track : ℕ) (parents closings : List ℕ) (report leaver : ℕ) (pairing owner : List ℕ) : Type 0 where
   pub shape : Shape cells m n pairing owner prices discounts
-  pub lpar : length par ≡ m
-  pub ls : length shut ≡ m
-  pub rr : track < n
+  pub parents-long : length parents ≡ m
+  pub closings-long : length closings ≡ m
+  pub track-in : track < n
   pub rp : at pairing track ≡ none
   pub M : Match cells m n pairing owner prices discounts none
-  pub chain : (b : ℕ) → Chain cells m n pairing prices discounts track par shut b
-  pub end : ((report < m) × ((at owner report ≡ none) × (far ≤ at shut report)))
+  pub chain : (b : ℕ) → Chain cells m n pairing prices discounts track parents closings b
+  pub end : ((report < m) × ((at owner report ≡ none) × (far ≤ at closings report)))
       ⊎ ((report ≡ none) × (((leaver ≡ track) × (at prices track ≡ leftOut))
-      ⊎ ((leaver < n) × ((at pairing leaver < m) × ((far ≤ at shut (at pairing leaver)) × (at prices leaver ≡ leftOut))))))
+      ⊎ ((leaver < n) × ((at pairing leaver < m) × ((far ≤ at closings (at pairing leaver)) × (at prices leaver ≡ leftOut))))))
 
 pub record Settled (cells : List ℕ) (m n : ℕ) (prices discounts : List ℕ) (track : ℕ) (pairing owner pairing' owner' : List ℕ) : Type 0 where
   pub shape : Shape cells m n pairing' owner' prices discounts
@@ -210,10 +210,10 @@ pub record Inserted (cells : List ℕ) (m n track : ℕ) (pairing prices pairing
   pub done-r : Done m pairing' prices' track
 
 -- how far the prices rose: of a track in a pair, before it meets the score of a free report, there is left what the search had still to go
-pub record Reached (cells : List ℕ) (m n : ℕ) (pairing owner prices dist : List ℕ) (D : ℕ) (pairing' owner' prices' : List ℕ) : Type 0 where
-  pub ld : length dist ≡ m
-  pub cap : (j : ℕ) → j < m → at dist j ≤ leftOut
+pub record Reached (cells : List ℕ) (m n : ℕ) (pairing owner prices labels : List ℕ) (D : ℕ) (pairing' owner' prices' : List ℕ) : Type 0 where
+  pub labels-long : length labels ≡ m
+  pub cap : (j : ℕ) → j < m → at labels j ≤ leftOut
   pub end : D ≤ leftOut
   pub free : (j : ℕ) → j < m → at owner' j ≡ none → at owner j ≡ none
   pub rise : (i j : ℕ) → i < n → j < m → at pairing' i < m → at owner' j ≡ none → cell cells m i j < far
-      → ((at pairing i < m) × (at prices' i ≡ at prices i)) ⊎ (at prices' i + (at dist j - D) ≤ cell cells m i j)
+      → ((at pairing i < m) × (at prices' i ≡ at prices i)) ⊎ (at prices' i + (at labels j - D) ≤ cell cells m i j)

@@ -38,11 +38,11 @@ fn scan(
     d: u32,
     prices: &[u32],
     discounts: &[u32],
-    dist: &mut [u32],
-    par: &mut [u32],
+    labels: &mut [u32],
+    parents: &mut [u32],
 )
-    requires { ⌜ Scannable (now sheet) reports lo i d (now prices) (now discounts) (now dist) (now par) ⌝ }
-    ensures { λ r. ⌜ Scanned (now (sheet .entry)) reports (now (discounts .entry)) d (at (now (prices .entry)) i) i (now (dist .entry)) (now (par .entry)) (now (dist .exit)) (now (par .exit)) ⌝ }
+    requires { ⌜ Scannable (now sheet) reports lo i d (now prices) (now discounts) (now labels) (now parents) ⌝ }
+    ensures { λ r. ⌜ Scanned (now (sheet .entry)) reports (now (discounts .entry)) d (at (now (prices .entry)) i) i (now (labels .entry)) (now (parents .entry)) (now (labels .exit)) (now (parents .exit)) ⌝ }
 {
     let ii = idx(i);
     let a = ii * reports;
@@ -55,8 +55,8 @@ fn scan(
         d,
         price,
         i,
-        &mut dist[lo..],
-        &mut par[lo..],
+        &mut labels[lo..],
+        &mut parents[lo..],
     );
 }
 
@@ -69,24 +69,34 @@ fn search(
     owner: &[u32],
     prices: &[u32],
     discounts: &[u32],
-    dist: &mut [u32],
-    par: &mut [u32],
-    shut: &mut [u32],
+    labels: &mut [u32],
+    parents: &mut [u32],
+    closings: &mut [u32],
 ) -> Ending
-    requires { ⌜ Searchable (now sheet) reports track (now pairing) (now owner) (now prices) (now discounts) (now dist) (now par) (now shut) ⌝ }
-    ensures { λ f. ⌜ Ended (now (sheet .entry)) reports (length (now (prices .entry))) (now (pairing .entry)) (now (owner .entry)) (now (prices .entry)) (now (discounts .entry)) track (f .d) (f .report) (f .leaver) (now (dist .exit)) (now (par .exit)) (now (shut .exit)) ⌝ }
+    requires { ⌜ Searchable (now sheet) reports track (now pairing) (now owner) (now prices) (now discounts) (now labels) (now parents) (now closings) ⌝ }
+    ensures { λ f. ⌜ Ended (now (sheet .entry)) reports (length (now (prices .entry))) (now (pairing .entry)) (now (owner .entry)) (now (prices .entry)) (now (discounts .entry)) track (f .d) (f .report) (f .leaver) (now (labels .exit)) (now (parents .exit)) (now (closings .exit)) ⌝ }
 {
-    fill(dist, LEFT_OUT);
-    fill(shut, 0);
+    fill(labels, LEFT_OUT);
+    fill(closings, 0);
     let mut leaving = LEFT_OUT - prices[idx(track)];
     let mut leaver = track;
     let mut k: u32 = 0;
     let mut lo: usize = 0;
-    scan(sheet, reports, lo, track, 0, prices, discounts, dist, par);
-    let mut j = nearest_from(lo, dist, shut, leaving);
+    scan(
+        sheet,
+        reports,
+        lo,
+        track,
+        0,
+        prices,
+        discounts,
+        labels,
+        parents,
+    );
+    let mut j = nearest_from(lo, labels, closings, leaving);
     while j < reports {
-        let d = dist[j];
-        shut[j] = FAR + k;
+        let d = labels[j];
+        closings[j] = FAR + k;
         k += 1;
         let o = owner[j];
         if o == NONE {
@@ -100,9 +110,9 @@ fn search(
         let x = d + (LEFT_OUT - prices[idx(o)]);
         leaver = choose(x, leaving, o, leaver);
         leaving = lesser(x, leaving);
-        lo = open_from(shut, lo);
-        scan(sheet, reports, lo, o, d, prices, discounts, dist, par);
-        j = nearest_from(lo, dist, shut, leaving);
+        lo = open_from(closings, lo);
+        scan(sheet, reports, lo, o, d, prices, discounts, labels, parents);
+        j = nearest_from(lo, labels, closings, leaving);
     }
     Ending {
         d: leaving,
@@ -119,19 +129,19 @@ fn flip(
     prices: &[u32],
     discounts: &[u32],
     track: u32,
-    par: &[u32],
-    shut: &[u32],
+    parents: &[u32],
+    closings: &[u32],
     start: u32,
     pairing: &mut [u32],
     owner: &mut [u32],
 )
-    requires { ⌜ Flips (now sheet) reports (length (now prices)) (now prices) (now discounts) track (now par) (now shut) (now pairing) (now owner) (now pairing) (now owner) start ⌝ }
+    requires { ⌜ Flips (now sheet) reports (length (now prices)) (now prices) (now discounts) track (now parents) (now closings) (now pairing) (now owner) (now pairing) (now owner) start ⌝ }
     ensures { λ _. ⌜ Flipped (now (sheet .entry)) reports (length (now (prices .entry))) (now (prices .entry)) (now (discounts .entry)) track (now (pairing .entry)) (now (owner .entry)) (now (pairing .exit)) (now (owner .exit)) ⌝ }
 {
     let mut h = start;
     while h != NONE {
         let hh = idx(h);
-        let i = par[hh];
+        let i = parents[hh];
         let ii = idx(i);
         let next = pairing[ii];
         pairing[ii] = h;
@@ -147,14 +157,14 @@ fn finish(
     prices: &[u32],
     discounts: &[u32],
     track: u32,
-    par: &[u32],
-    shut: &[u32],
+    parents: &[u32],
+    closings: &[u32],
     report: u32,
     leaver: u32,
     pairing: &mut [u32],
     owner: &mut [u32],
 )
-    requires { ⌜ Finishable (now sheet) reports (length (now prices)) (now prices) (now discounts) track (now par) (now shut) report leaver (now pairing) (now owner) ⌝ }
+    requires { ⌜ Finishable (now sheet) reports (length (now prices)) (now prices) (now discounts) track (now parents) (now closings) report leaver (now pairing) (now owner) ⌝ }
     ensures { λ _. ⌜ Settled (now (sheet .entry)) reports (length (now (prices .entry))) (now (prices .entry)) (now (discounts .entry)) track (now (pairing .entry)) (now (owner .entry)) (now (pairing .exit)) (now (owner .exit)) ⌝ }
 {
     if report != NONE {
@@ -164,8 +174,8 @@ fn finish(
             prices,
             discounts,
             track,
-            par,
-            shut,
+            parents,
+            closings,
             report,
             pairing,
             owner,
@@ -184,8 +194,8 @@ fn finish(
         prices,
         discounts,
         track,
-        par,
-        shut,
+        parents,
+        closings,
         s,
         pairing,
         owner,
@@ -201,12 +211,12 @@ pub fn insert(
     owner: &mut [u32],
     prices: &mut [u32],
     discounts: &mut [u32],
-    dist: &mut [u32],
-    par: &mut [u32],
-    shut: &mut [u32],
+    labels: &mut [u32],
+    parents: &mut [u32],
+    closings: &mut [u32],
 ) -> Reach
-    requires { ⌜ Searchable (now sheet) reports track (now pairing) (now owner) (now prices) (now discounts) (now dist) (now par) (now shut) ⌝ }
-    ensures { λ r. ⌜ Inserted (now (sheet .entry)) reports (length (now (prices .entry))) track (now (pairing .entry)) (now (prices .entry)) (now (pairing .exit)) (now (owner .exit)) (now (prices .exit)) (now (discounts .exit)) × Reached (now (sheet .entry)) reports (length (now (prices .entry))) (now (pairing .entry)) (now (owner .entry)) (now (prices .entry)) (now (dist .exit)) (r .d) (now (pairing .exit)) (now (owner .exit)) (now (prices .exit)) ⌝ }
+    requires { ⌜ Searchable (now sheet) reports track (now pairing) (now owner) (now prices) (now discounts) (now labels) (now parents) (now closings) ⌝ }
+    ensures { λ r. ⌜ Inserted (now (sheet .entry)) reports (length (now (prices .entry))) track (now (pairing .entry)) (now (prices .entry)) (now (pairing .exit)) (now (owner .exit)) (now (prices .exit)) (now (discounts .exit)) × Reached (now (sheet .entry)) reports (length (now (prices .entry))) (now (pairing .entry)) (now (owner .entry)) (now (prices .entry)) (now (labels .exit)) (r .d) (now (pairing .exit)) (now (owner .exit)) (now (prices .exit)) ⌝ }
 {
     let f = search(
         sheet,
@@ -216,16 +226,16 @@ pub fn insert(
         owner,
         prices,
         discounts,
-        dist,
-        par,
-        shut,
+        labels,
+        parents,
+        closings,
     );
     let d = f.d;
     let report = f.report;
     let leaver = f.leaver;
     let steps = f.steps;
-    raise_cols(dist, d, discounts);
-    raise_rows(pairing, owner, dist, d, prices);
+    raise_cols(labels, d, discounts);
+    raise_rows(pairing, owner, labels, d, prices);
     let x = idx(track);
     prices[x] = prices[x] + d;
     finish(
@@ -234,8 +244,8 @@ pub fn insert(
         prices,
         discounts,
         track,
-        par,
-        shut,
+        parents,
+        closings,
         report,
         leaver,
         pairing,

@@ -17,45 +17,45 @@ use Rattle.queue.specs.State.{Slack, Lifting, Rooms}
 -- a report that no track has is without discount
 pub free-zero : (cells : List ℕ) (m n : ℕ) (pairing owner prices discounts : List ℕ) → Good cells m n pairing owner prices discounts → (j : ℕ) → j < m → at owner j ≡ none → at discounts j ≡ 0
 free-zero cells m n pairing owner prices discounts G j g z =
-    ⊎-elim (λ a. a .1) (λ o. absurd (omega (arith, o .there, G .shape .nn))) (G .M .owned j g (λ e. omega (arith, G .shape .mm)))
+    ⊎-elim (λ a. a .1) (λ o. absurd (omega (arith, o .there, G .shape .tracks-few))) (G .M .owned j g (λ e. omega (arith, G .shape .reports-few)))
 
 module _ (cells : List ℕ) (m track : ℕ) (pairing owner prices discounts slack : List ℕ) (G : Good cells m (length prices) pairing owner prices discounts) (h : track < length prices)
     (K : Slack cells m track pairing owner prices slack) where
   rl : length (row cells m track) ≡ m
-  rl = row-length cells m (length prices) track h (G .shape .lC)
+  rl = row-length cells m (length prices) track h (G .shape .cells-long)
 
   ra : (k : ℕ) → k < m → at (row cells m track) k ≡ cell cells m track k
-  ra k g = row-at cells m (length prices) track h (G .shape .lC) k g
+  ra k g = row-at cells m (length prices) track h (G .shape .cells-long) k g
 
   pub row-slack : Row (row cells m track) (at prices track) slack
   row-slack = record {
-    same = rl ∙ sym (K .ls);
-    cs = λ k g. let q : k < m = omega (arith, K .ls) in
-        rw (ra k q) (G .shape .cs (track * m + k) (omega (arith, row-end cells m (length prices) track h (G .shape .lC))));
-    top = G .P .um track h;
+    same = rl ∙ sym (K .slack-long);
+    cells-good = λ k g. let q : k < m = omega (arith, K .slack-long) in
+        rw (ra k q) (G .shape .cells-good (track * m + k) (omega (arith, row-end cells m (length prices) track h (G .shape .cells-long))));
+    top = G .P .price-in track h;
     small = K .small;
   }
 
   -- a track in no pair bounds nothing
   pub kept-none : at pairing track ≡ none → Slack cells m (track + 1) pairing owner prices slack
   kept-none z = record {
-    ls = K .ls;
+    slack-long = K .slack-long;
     small = K .small;
-    room = λ i j l g p f a. ⊎-elim (λ q. absurd (omega (arith, ap (at pairing) q, G .shape .mm))) (λ d. K .room i j (omega arith) g p f a) (same-or i track);
+    room = λ i j l g p f a. ⊎-elim (λ q. absurd (omega (arith, ap (at pairing) q, G .shape .reports-few))) (λ d. K .room i j (omega arith) g p f a) (same-or i track);
   }
 
   pub kept-row : (slack' : List ℕ) → Kept (row cells m track) (at prices track) slack slack' → Slack cells m (track + 1) pairing owner prices slack'
   kept-row slack' R = record {
-    ls = R .ls ∙ K .ls;
-    small = λ k g. omega (arith, R .less k (omega (arith, R .ls)), K .small k (omega (arith, R .ls)));
-    room = λ i j l g p f a. let s : j < length slack = omega (arith, K .ls) in
+    slack-long = R .slack-long ∙ K .slack-long;
+    small = λ k g. omega (arith, R .less k (omega (arith, R .slack-long)), K .small k (omega (arith, R .slack-long)));
+    room = λ i j l g p f a. let s : j < length slack = omega (arith, K .slack-long) in
         ⊎-elim
         (λ q. rw q (omega (
           arith,
           R .room j s (omega (arith, ra j g, ap (λ (k : ℕ). cell cells m k j) q)),
           ra j g,
           ap (λ (k : ℕ). cell cells m k j) q,
-          G .P .feas track j h g (omega (arith, ap (λ (k : ℕ). cell cells m k j) q)),
+          G .P .fair track j h g (omega (arith, ap (λ (k : ℕ). cell cells m k j) q)),
           free-zero cells m (length prices) pairing owner prices discounts G j g f,
         )))
         (λ d. omega (arith, K .room i j (omega arith) g p f a, R .less j s)) (same-or i track);
@@ -68,23 +68,23 @@ module _ (cells : List ℕ) (m n : ℕ) (pairing owner prices discounts slack : 
   G = L .good
 
   u-pair : (i : ℕ) → i < n → at pairing i < m → at prices' i ≡ at prices i + x
-  u-pair i h p = U .paired i (omega (arith, G .shape .lu)) (λ e. omega (arith, G .shape .mm))
+  u-pair i h p = U .paired i (omega (arith, G .shape .prices-long)) (λ e. omega (arith, G .shape .reports-few))
 
   u-none : (i : ℕ) → i < n → at pairing i ≡ none → at prices' i ≡ at prices i
-  u-none i h z = U .alone i (omega (arith, G .shape .lu)) z
+  u-none i h z = U .alone i (omega (arith, G .shape .prices-long)) z
 
   w-none : (j : ℕ) → j < m → at owner j ≡ none → at discounts' j ≡ at discounts j
-  w-none j g z = W .alone j (omega (arith, G .shape .lw)) z
+  w-none j g z = W .alone j (omega (arith, G .shape .discounts-long)) z
 
   w-own : (j : ℕ) → j < m → (at owner j ≡ none → ⊥) → at discounts' j ≡ at discounts j + x
-  w-own j g d = W .paired j (omega (arith, G .shape .lw)) d
+  w-own j g d = W .paired j (omega (arith, G .shape .discounts-long)) d
 
   owned : (j : ℕ) → Own cells m n pairing prices discounts j (at owner j) → at owner j ≡ none → ⊥
-  owned j o e = omega (arith, o .there, G .shape .nn)
+  owned j o e = omega (arith, o .there, G .shape .tracks-few)
 
   feas' : (i j : ℕ) → i < n → j < m → cell cells m i j < far → at prices' i ≤ cell cells m i j + at discounts' j
   feas' i j h g a =
-      let f = G .P .feas i j h g a in
+      let f = G .P .fair i j h g a in
       ⊎-elim
       (λ z. ⊎-elim (λ y. omega (arith, u-none i h z, w-none j g y)) (λ d. omega (arith, u-none i h z, w-own j g d)) (same-or (at owner j) none))
       (λ p. ⊎-elim (λ y. omega (arith, u-pair i h (p .0), xs j g y, L .slacks .room i j h g (p .0) y a)) (λ d. omega (arith, u-pair i h (p .0), w-own j g d)) (same-or (at owner j) none))
@@ -94,18 +94,18 @@ module _ (cells : List ℕ) (m n : ℕ) (pairing owner prices discounts slack : 
   own' j g o = record {
     there = o .there;
     back = o .back;
-    adm = o .adm;
+    admissible = o .admissible;
     tight = omega (arith, u-pair (at owner j) (o .there) (omega (arith, o .back)), w-own j g (owned j o), o .tight);
   }
 
   good' : Good cells m n pairing owner prices' discounts'
   good' = record {
-    shape = record { lC = G .shape .lC; lp = G .shape .lp; lo = G .shape .lo; lu = U .la ∙ G .shape .lu; lw = W .la ∙ G .shape .lw; nn = G .shape .nn; mm = G .shape .mm; cs = G .shape .cs };
+    shape = record { cells-long = G .shape .cells-long; pairing-long = G .shape .pairing-long; owner-long = G .shape .owner-long; prices-long = U .same-long ∙ G .shape .prices-long; discounts-long = W .same-long ∙ G .shape .discounts-long; tracks-few = G .shape .tracks-few; reports-few = G .shape .reports-few; cells-good = G .shape .cells-good };
     P = record {
-      feas = feas';
-      um = λ i h. ⊎-elim (λ z. omega (arith, u-none i h z, G .P .um i h)) (λ p. omega (arith, u-pair i h (p .0), xu i h)) (G .M .paired i h);
-      wm = λ j g. ⊎-elim (λ z. omega (arith, w-none j g (z .0), G .P .wm j g))
-          (λ o. omega (arith, w-own j g (owned j o), o .tight, xu (at owner j) (o .there))) (G .M .owned j g (λ e. omega (arith, G .shape .mm)));
+      fair = feas';
+      price-in = λ i h. ⊎-elim (λ z. omega (arith, u-none i h z, G .P .price-in i h)) (λ p. omega (arith, u-pair i h (p .0), xu i h)) (G .M .paired i h);
+      discount-in = λ j g. ⊎-elim (λ z. omega (arith, w-none j g (z .0), G .P .discount-in j g))
+          (λ o. omega (arith, w-own j g (owned j o), o .tight, xu (at owner j) (o .there))) (G .M .owned j g (λ e. omega (arith, G .shape .reports-few)));
     };
     M = record {
       owned = λ j g d. ⊎-elim (λ z. inl (z .0, w-none j g (z .0) ∙ z .1)) (λ o. inr (own' j g o)) (G .M .owned j g d);
@@ -117,40 +117,40 @@ module _ (cells : List ℕ) (m n : ℕ) (pairing owner prices discounts slack : 
   lifted = record {
     good = good';
     slacks = record {
-      ls = K .ls ∙ L .slacks .ls;
-      small = λ k h. omega (arith, K .left k (omega (arith, K .ls)), L .slacks .small k (omega (arith, K .ls)));
-      room = λ i j h g p f a. omega (arith, u-pair i h p, K .left j (omega (arith, L .slacks .ls)), xs j g f, L .slacks .room i j h g p f a);
+      slack-long = K .slack-long ∙ L .slacks .slack-long;
+      small = λ k h. omega (arith, K .left k (omega (arith, K .slack-long)), L .slacks .small k (omega (arith, K .slack-long)));
+      room = λ i j h g p f a. omega (arith, u-pair i h p, K .left j (omega (arith, L .slacks .slack-long)), xs j g f, L .slacks .room i j h g p f a);
     };
   }
 
 -- a turn's search tightens the slacks
 module _ (cells : List ℕ) (m n track : ℕ) (pairing owner prices discounts slack : List ℕ) (L : Lifting cells m n pairing owner prices discounts slack)
-    (pairing' owner' prices' discounts' dist : List ℕ) (D : ℕ) (I : Inserted cells m n track pairing prices pairing' owner' prices' discounts')
-    (R : Reached cells m n pairing owner prices dist D pairing' owner' prices') where
-  pub search-slacks : Slacks dist D slack
+    (pairing' owner' prices' discounts' labels : List ℕ) (D : ℕ) (I : Inserted cells m n track pairing prices pairing' owner' prices' discounts')
+    (R : Reached cells m n pairing owner prices labels D pairing' owner' prices') where
+  pub search-slacks : Slacks labels D slack
   search-slacks = record {
-    same = R .ld ∙ sym (L .slacks .ls);
+    same = R .labels-long ∙ sym (L .slacks .slack-long);
     end = R .end;
-    labels = λ k h. R .cap k (omega (arith, R .ld));
+    labels-small = λ k h. R .cap k (omega (arith, R .labels-long));
     small = L .slacks .small;
   }
 
-  pub turned : (slack' : List ℕ) → Tightened dist D slack slack' → Lifting cells m n pairing' owner' prices' discounts' slack'
+  pub turned : (slack' : List ℕ) → Tightened labels D slack slack' → Lifting cells m n pairing' owner' prices' discounts' slack'
   turned slack' T = record {
     good = I .good;
     slacks = record {
-      ls = T .ls ∙ L .slacks .ls;
-      small = λ k h. omega (arith, T .less k (omega (arith, T .ls)), L .slacks .small k (omega (arith, T .ls)));
-      room = λ i j h g p f a. let s : j < length slack = omega (arith, L .slacks .ls) in
+      slack-long = T .slack-long ∙ L .slacks .slack-long;
+      small = λ k h. omega (arith, T .less k (omega (arith, T .slack-long)), L .slacks .small k (omega (arith, T .slack-long)));
+      room = λ i j h g p f a. let s : j < length slack = omega (arith, L .slacks .slack-long) in
           ⊎-elim (λ b. omega (arith, b .1, T .less j s, L .slacks .room i j h g (b .0) (R .free j g f) a)) (λ b. omega (arith, T .room j s)) (R .rise i j h g p f a);
     };
   }
 
 -- a track that waits, with the lists of a search
-pub waits : (cells : List ℕ) (m track : ℕ) (pairing owner prices discounts dist par shut : List ℕ) → Good cells m (length prices) pairing owner prices discounts → Rooms m dist par shut
-    → track < length prices → at pairing track ≡ none → Searchable cells m track pairing owner prices discounts dist par shut
-waits cells m track pairing owner prices discounts dist par shut G L h z =
-    record { shape = G .shape; P = G .P; M = G .M; rr = h; rp = z; ld = L .ld; lpar = L .lpar; ls = L .ls }
+pub waits : (cells : List ℕ) (m track : ℕ) (pairing owner prices discounts labels parents closings : List ℕ) → Good cells m (length prices) pairing owner prices discounts → Rooms m labels parents closings
+    → track < length prices → at pairing track ≡ none → Searchable cells m track pairing owner prices discounts labels parents closings
+waits cells m track pairing owner prices discounts labels parents closings G L h z =
+    record { shape = G .shape; P = G .P; M = G .M; track-in = h; rp = z; labels-long = L .labels-long; parents-long = L .parents-long; closings-long = L .closings-long }
 
 -- with another name for the number of tracks
 pub lifting-at : (cells : List ℕ) (m n k : ℕ) (pairing owner prices discounts slack : List ℕ) → k ≡ n → Lifting cells m k pairing owner prices discounts slack → Lifting cells m n pairing owner prices discounts slack
@@ -161,4 +161,4 @@ pub good-at : (cells : List ℕ) (m n k : ℕ) (pairing owner prices discounts :
 good-at cells m n k pairing owner prices discounts e G = subst (λ (x : ℕ). Good cells m x pairing owner prices discounts) e G
 
 pub good-len : (cells : List ℕ) (m n : ℕ) (pairing owner prices discounts : List ℕ) → Good cells m n pairing owner prices discounts → Good cells m (length prices) pairing owner prices discounts
-good-len cells m n pairing owner prices discounts G = rw (G .shape .lu) G
+good-len cells m n pairing owner prices discounts G = rw (G .shape .prices-long) G

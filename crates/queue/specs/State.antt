@@ -11,7 +11,7 @@ use Rattle.paths.specs.State.{cell, Good}
 
 -- a price of a pair may rise by a free report's slack, and is then no higher than its score
 pub record Slack (cells : List ℕ) (m t : ℕ) (pairing owner prices slack : List ℕ) : Type 0 where
-  pub ls : length slack ≡ m
+  pub slack-long : length slack ≡ m
   pub small : Small slack
   pub room : (i j : ℕ) → i < t → j < m → at pairing i < m → at owner j ≡ none → cell cells m i j < far → at prices i + at slack j ≤ cell cells m i j
 
@@ -20,7 +20,7 @@ pub record Lifting (cells : List ℕ) (m n : ℕ) (pairing owner prices discount
   pub slacks : Slack cells m n pairing owner prices slack
 
 -- the working lists of a search
-pub record Rooms (m : ℕ) (dist par shut : List ℕ) : Type 0 where
-  pub ld : length dist ≡ m
-  pub lpar : length par ≡ m
-  pub ls : length shut ≡ m
+pub record Rooms (m : ℕ) (labels parents closings : List ℕ) : Type 0 where
+  pub labels-long : length labels ≡ m
+  pub parents-long : length parents ≡ m
+  pub closings-long : length closings ≡ m

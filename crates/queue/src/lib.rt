@@ -106,12 +106,12 @@ fn lifted_turn(
     owner: &mut [u32],
     prices: &mut [u32],
     discounts: &mut [u32],
-    dist: &mut [u32],
-    par: &mut [u32],
-    shut: &mut [u32],
+    labels: &mut [u32],
+    parents: &mut [u32],
+    closings: &mut [u32],
     slack: &mut [u32],
 )
-    requires { ⌜ Lifting (now sheet) reports (length (now prices)) (now pairing) (now owner) (now prices) (now discounts) (now slack) × (Rooms reports (now dist) (now par) (now shut) × ((track < length (now prices)) × (at (now pairing) track ≡ none))) ⌝ }
+    requires { ⌜ Lifting (now sheet) reports (length (now prices)) (now pairing) (now owner) (now prices) (now discounts) (now slack) × (Rooms reports (now labels) (now parents) (now closings) × ((track < length (now prices)) × (at (now pairing) track ≡ none))) ⌝ }
     ensures { λ _. ⌜ Lifting (now (sheet .entry)) reports (length (now (prices .entry))) (now (pairing .exit)) (now (owner .exit)) (now (prices .exit)) (now (discounts .exit)) (now (slack .exit)) ⌝ }
 {
     lift(sheet, reports, pairing, owner, prices, discounts, slack);
@@ -123,12 +123,12 @@ fn lifted_turn(
         owner,
         prices,
         discounts,
-        dist,
-        par,
-        shut,
+        labels,
+        parents,
+        closings,
     );
     let d = r.d;
-    tighten(dist, d, slack);
+    tighten(labels, d, slack);
 }
 
 fn lifted_turns(
@@ -138,12 +138,12 @@ fn lifted_turns(
     owner: &mut [u32],
     prices: &mut [u32],
     discounts: &mut [u32],
-    dist: &mut [u32],
-    par: &mut [u32],
-    shut: &mut [u32],
+    labels: &mut [u32],
+    parents: &mut [u32],
+    closings: &mut [u32],
     slack: &mut [u32],
 )
-    requires { ⌜ Lifting (now sheet) reports (length (now prices)) (now pairing) (now owner) (now prices) (now discounts) (now slack) × Rooms reports (now dist) (now par) (now shut) ⌝ }
+    requires { ⌜ Lifting (now sheet) reports (length (now prices)) (now pairing) (now owner) (now prices) (now discounts) (now slack) × Rooms reports (now labels) (now parents) (now closings) ⌝ }
     ensures { λ _. ⌜ Good (now (sheet .entry)) reports (length (now (prices .entry))) (now (pairing .exit)) (now (owner .exit)) (now (prices .exit)) (now (discounts .exit)) ⌝ }
 {
     let mut k: usize = 0;
@@ -160,9 +160,9 @@ fn lifted_turns(
             owner,
             prices,
             discounts,
-            dist,
-            par,
-            shut,
+            labels,
+            parents,
+            closings,
             slack,
         );
         k += 1;
@@ -185,11 +185,11 @@ fn first_turns(
     owner: &mut [u32],
     prices: &mut [u32],
     discounts: &mut [u32],
-    dist: &mut [u32],
-    par: &mut [u32],
-    shut: &mut [u32],
+    labels: &mut [u32],
+    parents: &mut [u32],
+    closings: &mut [u32],
 )
-    requires { ⌜ Good (now sheet) reports (length (now prices)) (now pairing) (now owner) (now prices) (now discounts) × Rooms reports (now dist) (now par) (now shut) ⌝ }
+    requires { ⌜ Good (now sheet) reports (length (now prices)) (now pairing) (now owner) (now prices) (now discounts) × Rooms reports (now labels) (now parents) (now closings) ⌝ }
     ensures { λ _. ⌜ Good (now (sheet .entry)) reports (length (now (prices .entry))) (now (pairing .exit)) (now (owner .exit)) (now (prices .exit)) (now (discounts .exit)) ⌝ }
 {
     let mut k: usize = 0;
@@ -206,9 +206,9 @@ fn first_turns(
             owner,
             prices,
             discounts,
-            dist,
-            par,
-            shut,
+            labels,
+            parents,
+            closings,
         );
         let steps = r.steps;
         k = next_round(k, prices.len(), steps);
@@ -223,12 +223,12 @@ fn later_turns(
     owner: &mut [u32],
     prices: &mut [u32],
     discounts: &mut [u32],
-    dist: &mut [u32],
-    par: &mut [u32],
-    shut: &mut [u32],
+    labels: &mut [u32],
+    parents: &mut [u32],
+    closings: &mut [u32],
     slack: &mut [u32],
 )
-    requires { ⌜ Good (now sheet) reports (length (now prices)) (now pairing) (now owner) (now prices) (now discounts) × (Rooms reports (now dist) (now par) (now shut) × (length (now slack) ≡ reports)) ⌝ }
+    requires { ⌜ Good (now sheet) reports (length (now prices)) (now pairing) (now owner) (now prices) (now discounts) × (Rooms reports (now labels) (now parents) (now closings) × (length (now slack) ≡ reports)) ⌝ }
     ensures { λ _. ⌜ Good (now (sheet .entry)) reports (length (now (prices .entry))) (now (pairing .exit)) (now (owner .exit)) (now (prices .exit)) (now (discounts .exit)) ⌝ }
 {
     if next_turn(pairing, prices) == 0 {
@@ -243,9 +243,9 @@ fn later_turns(
         owner,
         prices,
         discounts,
-        dist,
-        par,
-        shut,
+        labels,
+        parents,
+        closings,
         slack,
     );
 }
@@ -258,12 +258,12 @@ pub fn take_turns(
     owner: &mut [u32],
     prices: &mut [u32],
     discounts: &mut [u32],
-    dist: &mut [u32],
-    par: &mut [u32],
-    shut: &mut [u32],
+    labels: &mut [u32],
+    parents: &mut [u32],
+    closings: &mut [u32],
     slack: &mut [u32],
 )
-    requires { ⌜ Good (now sheet) reports (length (now prices)) (now pairing) (now owner) (now prices) (now discounts) × (Rooms reports (now dist) (now par) (now shut) × (length (now slack) ≡ reports)) ⌝ }
+    requires { ⌜ Good (now sheet) reports (length (now prices)) (now pairing) (now owner) (now prices) (now discounts) × (Rooms reports (now labels) (now parents) (now closings) × (length (now slack) ≡ reports)) ⌝ }
     ensures { λ _. ⌜ Good (now (sheet .entry)) reports (length (now (prices .entry))) (now (pairing .exit)) (now (owner .exit)) (now (prices .exit)) (now (discounts .exit)) ⌝ }
 {
     first_turns(
@@ -273,9 +273,9 @@ pub fn take_turns(
         owner,
         prices,
         discounts,
-        dist,
-        par,
-        shut,
+        labels,
+        parents,
+        closings,
     );
     later_turns(
         sheet,
@@ -284,9 +284,9 @@ pub fn take_turns(
         owner,
         prices,
         discounts,
-        dist,
-        par,
-        shut,
+        labels,
+        parents,
+        closings,
         slack,
     );
 }

@@ -10,27 +10,27 @@ use Rattle.engine.proofs.assign.Statement.{statement}
 use Rattle.engine.proofs.assign.Tie as tie
 
 abbrev Inv-loop : tie.InvT-loop
-Inv-loop sheet reports pairing₀ owner₀ prices₀ discounts₀ dist₀ par₀ shut₀ slack track₀ pairing owner prices discounts dist par shut track = Good sheet reports (length prices₀) pairing owner prices discounts × ((track ≤ length prices₀) × (((i : ℕ) → i < track → Done reports pairing prices i) × ((length dist ≡ reports) × ((length par ≡ reports) × (length shut ≡ reports)))))
+Inv-loop sheet reports pairing₀ owner₀ prices₀ discounts₀ labels₀ parents₀ closings₀ slack track₀ pairing owner prices discounts labels parents closings track = Good sheet reports (length prices₀) pairing owner prices discounts × ((track ≤ length prices₀) × (((i : ℕ) → i < track → Done reports pairing prices i) × ((length labels ≡ reports) × ((length parents ≡ reports) × (length closings ≡ reports)))))
 
 abbrev μ-loop : tie.MeasureT-loop
-μ-loop sheet reports pairing₀ owner₀ prices₀ discounts₀ dist₀ par₀ shut₀ slack track₀ pairing owner prices discounts dist par shut track = length prices₀ - track
+μ-loop sheet reports pairing₀ owner₀ prices₀ discounts₀ labels₀ parents₀ closings₀ slack track₀ pairing owner prices discounts labels parents closings track = length prices₀ - track
 
 match-all-requires : tie.Need-match-all-requires Inv-loop μ-loop
 match-all-requires c κs = c .before .before .before .before .before .before .before .before .before .before .before .before .before .before .before .before .before .pre
 
 loop-holds : tie.Need-loop-holds Inv-loop μ-loop
-loop-holds c = (good-len _ _ _ _ _ _ _ (c .before .before .before .before .before .before .before .before .before .before .before .before .before .before .before .before .match-all .ensures), (search needs, (below-none _, (omega (arith, c .before .before .before .before .before .before .before .dist .given, c .before .before .before .before .before .before .before .before .before .before .before .before .before .before .before .before .before .before .before .before .before .before .before .before .before .before .before .before .before .before .before .before .before .before .pre .rooms .ld), (omega (arith, c .before .before .before .before .before .par .given, c .before .before .before .before .before .before .before .before .before .before .before .before .before .before .before .before .before .before .before .before .before .before .before .before .before .before .before .before .before .before .before .before .before .before .pre .rooms .lpar), omega (arith, c .before .before .before .shut .given, c .before .before .before .before .before .before .before .before .before .before .before .before .before .before .before .before .before .before .before .before .before .before .before .before .before .before .before .before .before .before .before .before .before .before .pre .rooms .ls))))))
+loop-holds c = (good-len _ _ _ _ _ _ _ (c .before .before .before .before .before .before .before .before .before .before .before .before .before .before .before .before .match-all .ensures), (search needs, (below-none _, (omega (arith, c .before .before .before .before .before .before .before .labels .given, c .before .before .before .before .before .before .before .before .before .before .before .before .before .before .before .before .before .before .before .before .before .before .before .before .before .before .before .before .before .before .before .before .before .before .pre .rooms .labels-long), (omega (arith, c .before .before .before .before .before .parents .given, c .before .before .before .before .before .before .before .before .before .before .before .before .before .before .before .before .before .before .before .before .before .before .before .before .before .before .before .before .before .before .before .before .before .before .pre .rooms .parents-long), omega (arith, c .before .before .before .closings .given, c .before .before .before .before .before .before .before .before .before .before .before .before .before .before .before .before .before .before .before .before .before .before .before .before .before .before .before .before .before .before .before .before .before .before .pre .rooms .closings-long))))))
 
 cast-visit : tie.Need-cast-visit Inv-loop μ-loop
 cast-visit c =
     let G = c .before .loop .inv .0 in
-    omega (arith, G .shape .lu, G .shape .nn, c .loop-test .taken)
+    omega (arith, G .shape .prices-long, G .shape .tracks-few, c .loop-test .taken)
 
 visit-requires : tie.Need-visit-requires Inv-loop μ-loop
 visit-requires c κs =
     let G = c .before .before .before .before .before .before .before .before .loop .inv .0 in
     let v = c .before .before .before .before .before .before .before .before .loop .inv .1 .1 .1 in
-    record { good = good-len _ _ _ _ _ _ _ G; rr = c .before .before .before .before .before .before .before .loop-test .taken; ld = v .0; lpar = v .1 .0; ls = v .1 .1 }
+    record { good = good-len _ _ _ _ _ _ _ G; track-in = c .before .before .before .before .before .before .before .loop-test .taken; labels-long = v .0; parents-long = v .1 .0; closings-long = v .1 .1 }
 
 add-track : tie.Need-add-track Inv-loop μ-loop
 add-track c = search needs
@@ -42,9 +42,9 @@ loop-again : tie.Need-loop-again Inv-loop μ-loop
 loop-again c =
     let G = c .before .before .before .before .before .before .before .before .before .before .before .before .before .before .before .before .before .before .before .before .before .before .before .loop .inv .0 in
     let I = c .before .before .before .before .before .before .before .before .before .before .before .before .before .before .visit .ensures in (
-      good-at _ _ _ _ _ _ _ _ (G .shape .lu) (I .good),
+      good-at _ _ _ _ _ _ _ _ (G .shape .prices-long) (I .good),
       (
-        omega (arith, G .shape .lu),
+        omega (arith, G .shape .prices-long),
         (below-more _ _ (λ i h. I .done i (omega arith) (c .before .before .before .before .before .before .before .before .before .before .before .before .before .before .before .before .before .before .before .before .before .before .before .loop .inv .1 .1 .0 i h)) (I .done-r), (search needs, (search needs, search needs))),
       ),
     )
@@ -62,13 +62,13 @@ same-length-4 : tie.Need-same-length-4 Inv-loop μ-loop
 same-length-4 c = search needs
 
 same-length-5 : tie.Need-same-length-5 Inv-loop μ-loop
-same-length-5 c = omega (arith, c .before .loop .inv .1 .1 .1 .0, c .before .before .before .before .before .before .before .before .before .before .before .before .before .before .before .before .before .before .before .before .before .before .before .before .before .before .before .before .before .before .before .before .before .before .before .before .pre .rooms .ld)
+same-length-5 c = omega (arith, c .before .loop .inv .1 .1 .1 .0, c .before .before .before .before .before .before .before .before .before .before .before .before .before .before .before .before .before .before .before .before .before .before .before .before .before .before .before .before .before .before .before .before .before .before .before .before .pre .rooms .labels-long)
 
 same-length-6 : tie.Need-same-length-6 Inv-loop μ-loop
-same-length-6 c = omega (arith, c .before .loop .inv .1 .1 .1 .1 .0, c .before .before .before .before .before .before .before .before .before .before .before .before .before .before .before .before .before .before .before .before .before .before .before .before .before .before .before .before .before .before .before .before .before .before .before .before .pre .rooms .lpar)
+same-length-6 c = omega (arith, c .before .loop .inv .1 .1 .1 .1 .0, c .before .before .before .before .before .before .before .before .before .before .before .before .before .before .before .before .before .before .before .before .before .before .before .before .before .before .before .before .before .before .before .before .before .before .before .before .pre .rooms .parents-long)
 
 same-length-7 : tie.Need-same-length-7 Inv-loop μ-loop
-same-length-7 c = omega (arith, c .before .loop .inv .1 .1 .1 .1 .1, c .before .before .before .before .before .before .before .before .before .before .before .before .before .before .before .before .before .before .before .before .before .before .before .before .before .before .before .before .before .before .before .before .before .before .before .before .pre .rooms .ls)
+same-length-7 c = omega (arith, c .before .loop .inv .1 .1 .1 .1 .1, c .before .before .before .before .before .before .before .before .before .before .before .before .before .before .before .before .before .before .before .before .before .before .before .before .before .before .before .before .before .before .before .before .before .before .before .before .pre .rooms .closings-long)
 
 same-length-8 : tie.Need-same-length-8 Inv-loop μ-loop
 same-length-8 c = search needs
@@ -77,7 +77,7 @@ returns : tie.Need-returns Inv-loop μ-loop
 returns c =
     let G = c .before .loop .inv .0 in
     let H = c .before .before .before .before .before .before .before .before .before .before .before .before .before .before .before .before .before .before .match-all .ensures in
-    record { good = good-at _ _ _ _ _ _ _ _ (H .shape .lu) G; done = λ i h. c .before .loop .inv .1 .1 .0 i (omega (arith, G .shape .lu, c .loop-test .left, H .shape .lu)) }
+    record { good = good-at _ _ _ _ _ _ _ _ (H .shape .prices-long) G; done = λ i h. c .before .loop .inv .1 .1 .0 i (omega (arith, G .shape .prices-long, c .loop-test .left, H .shape .prices-long)) }
 
 pub assign-spec : {M : Type 1} → statement M
 assign-spec =

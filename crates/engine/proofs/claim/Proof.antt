@@ -12,17 +12,17 @@ idx-requires c κs = search needs
 mul-a : tie.Need-mul-a
 mul-a c =
     let q = c .idx .ensures in
-    omega (arith, c .before .before .before .before .before .before .pre .good .shape .lC, row-in (c .idx .result) (length (c .before .before .before .before .before .before .args .prices .now)) (c .before .before .before .before .before .before .args .reports) (length (c .before .before .before .before .before .before .args .sheet .now)) (omega (arith, c .before .before .before .before .before .before .pre .rr)) (omega (arith, c .before .before .before .before .before .before .pre .good .shape .lC)))
+    omega (arith, c .before .before .before .before .before .before .pre .good .shape .cells-long, row-in (c .idx .result) (length (c .before .before .before .before .before .before .args .prices .now)) (c .before .before .before .before .before .before .args .reports) (length (c .before .before .before .before .before .before .args .sheet .now)) (omega (arith, c .before .before .before .before .before .before .pre .track-in)) (omega (arith, c .before .before .before .before .before .before .pre .good .shape .cells-long)))
 
 add-e : tie.Need-add-e
 add-e c =
     let q = c .idx .ensures in
-    omega (arith, c .before .before .before .before .before .before .pre .good .shape .lC, row-in (c .idx .result) (length (c .before .before .before .before .before .before .args .prices .now)) (c .before .before .before .before .before .before .args .reports) (length (c .before .before .before .before .before .before .args .sheet .now)) (omega (arith, c .before .before .before .before .before .before .pre .rr)) (omega (arith, c .before .before .before .before .before .before .pre .good .shape .lC)))
+    omega (arith, c .before .before .before .before .before .before .pre .good .shape .cells-long, row-in (c .idx .result) (length (c .before .before .before .before .before .before .args .prices .now)) (c .before .before .before .before .before .before .args .reports) (length (c .before .before .before .before .before .before .args .sheet .now)) (omega (arith, c .before .before .before .before .before .before .pre .track-in)) (omega (arith, c .before .before .before .before .before .before .pre .good .shape .cells-long)))
 
 mul-c : tie.Need-mul-c
 mul-c c =
     let q = c .idx .ensures in
-    omega (arith, c .before .before .before .before .before .before .pre .good .shape .lC, row-in (c .idx .result) (length (c .before .before .before .before .before .before .args .prices .now)) (c .before .before .before .before .before .before .args .reports) (length (c .before .before .before .before .before .before .args .sheet .now)) (omega (arith, c .before .before .before .before .before .before .pre .rr)) (omega (arith, c .before .before .before .before .before .before .pre .good .shape .lC)))
+    omega (arith, c .before .before .before .before .before .before .pre .good .shape .cells-long, row-in (c .idx .result) (length (c .before .before .before .before .before .before .args .prices .now)) (c .before .before .before .before .before .before .args .reports) (length (c .before .before .before .before .before .before .args .sheet .now)) (omega (arith, c .before .before .before .before .before .before .pre .track-in)) (omega (arith, c .before .before .before .before .before .before .pre .good .shape .cells-long)))
 
 sub-c : tie.Need-sub-c
 sub-c c = search needs
@@ -33,7 +33,7 @@ part-c-start c = search needs
 part-c-end : tie.Need-part-c-end
 part-c-end c =
     let q = c .idx .ensures in
-    omega (arith, c .before .before .before .before .before .before .pre .good .shape .lC, row-in (c .idx .result) (length (c .before .before .before .before .before .before .args .prices .now)) (c .before .before .before .before .before .before .args .reports) (length (c .before .before .before .before .before .before .args .sheet .now)) (omega (arith, c .before .before .before .before .before .before .pre .rr)) (omega (arith, c .before .before .before .before .before .before .pre .good .shape .lC)))
+    omega (arith, c .before .before .before .before .before .before .pre .good .shape .cells-long, row-in (c .idx .result) (length (c .before .before .before .before .before .before .args .prices .now)) (c .before .before .before .before .before .before .args .reports) (length (c .before .before .before .before .before .before .args .sheet .now)) (omega (arith, c .before .before .before .before .before .before .pre .track-in)) (omega (arith, c .before .before .before .before .before .before .pre .good .shape .cells-long)))
 
 row-best-requires : tie.Need-row-best-requires
 row-best-requires c κs = claim-cells _ _ _ _ _ _ _ (c .before .before .before .before .before .before .before .pre) _ (c .before .idx .ensures)
@@ -41,12 +41,12 @@ row-best-requires c κs = claim-cells _ _ _ _ _ _ _ (c .before .before .before .
 mul-prices : tie.Need-mul-prices
 mul-prices c =
     let q = c .before .before .idx .ensures in
-    omega (arith, c .before .before .before .before .before .before .before .before .pre .rr, c .before .before .before .before .before .before .before .before .pre .good .shape .nn)
+    omega (arith, c .before .before .before .before .before .before .before .before .pre .track-in, c .before .before .before .before .before .before .before .before .pre .good .shape .tracks-few)
 
 slice-write-prices : tie.Need-slice-write-prices
 slice-write-prices c =
     let q = c .before .before .idx .ensures in
-    omega (arith, c .before .before .before .before .before .before .before .before .pre .rr)
+    omega (arith, c .before .before .before .before .before .before .before .before .pre .track-in)
 
 same-length : tie.Need-same-length
 same-length c = search needs
@@ -75,23 +75,23 @@ returns-2 c = claimed-len _ _ _ _ _ _ _ (c .before .before .before .before .befo
 cast-pairing : tie.Need-cast-pairing
 cast-pairing c =
     let q = c .before .before .before .before .before .before .idx .ensures in
-    omega (arith, c .before .before .before .before .before .before .before .before .before .before .before .before .pre .good .shape .mm)
+    omega (arith, c .before .before .before .before .before .before .before .before .before .before .before .before .pre .good .shape .reports-few)
 
 mul-pairing : tie.Need-mul-pairing
 mul-pairing c =
     let q = c .before .before .before .before .before .before .idx .ensures in
-    omega (arith, c .before .before .before .before .before .before .before .before .before .before .before .before .pre .rr, c .before .before .before .before .before .before .before .before .before .before .before .before .pre .good .shape .lp, c .before .before .before .before .before .before .before .before .before .before .before .before .pre .good .shape .nn)
+    omega (arith, c .before .before .before .before .before .before .before .before .before .before .before .before .pre .track-in, c .before .before .before .before .before .before .before .before .before .before .before .before .pre .good .shape .pairing-long, c .before .before .before .before .before .before .before .before .before .before .before .before .pre .good .shape .tracks-few)
 
 slice-write-pairing : tie.Need-slice-write-pairing
 slice-write-pairing c =
     let q = c .before .before .before .before .before .before .idx .ensures in
-    omega (arith, c .before .before .before .before .before .before .before .before .before .before .before .before .pre .rr, c .before .before .before .before .before .before .before .before .before .before .before .before .pre .good .shape .lp)
+    omega (arith, c .before .before .before .before .before .before .before .before .before .before .before .before .pre .track-in, c .before .before .before .before .before .before .before .before .before .before .before .before .pre .good .shape .pairing-long)
 
 mul-owner : tie.Need-mul-owner
-mul-owner c = omega (arith, c .before .before .before .before .before .before .before .before .before .before .before .before .pre .good .shape .lo, c .before .before .before .before .before .before .before .before .before .before .before .before .pre .good .shape .mm)
+mul-owner c = omega (arith, c .before .before .before .before .before .before .before .before .before .before .before .before .pre .good .shape .owner-long, c .before .before .before .before .before .before .before .before .before .before .before .before .pre .good .shape .reports-few)
 
 slice-write-owner : tie.Need-slice-write-owner
-slice-write-owner c = omega (arith, c .before .before .before .before .before .before .before .before .before .before .before .before .pre .good .shape .lo)
+slice-write-owner c = omega (arith, c .before .before .before .before .before .before .before .before .before .before .before .before .pre .good .shape .owner-long)
 
 same-length-5 : tie.Need-same-length-5
 same-length-5 c = search needs

@@ -32,14 +32,14 @@ same-length-4 c = search needs
 returns : tie.Need-returns
 returns c = let S = c .before .before .before .before .before .before .before .before .before .before .before .before .before .before .before .before .before .before .before .before .before .pre in (
   blank _ _ _ _ _ _ _
-      (record { lC = S .lC; lp = c .before .before .before .before .before .before .before .before .before .before .before .before .before .before .fill .ensures .0 ∙ S .lp; lo = c .before .before .before .before .before .before .before .before .before .before .fill2 .ensures .0 ∙ S .lo; lu = c .before .before .before .before .before .before .fill3 .ensures .0; lw = c .before .before .fill4 .ensures .0 ∙ S .lw; nn = S .nn; mm = S .mm; cs = S .cs })
-      (λ i h. c .before .before .before .before .before .before .before .before .before .before .before .before .before .before .fill .ensures .1 i (omega (arith, S .lp)))
-      (λ j h. c .before .before .before .before .before .before .before .before .before .before .fill2 .ensures .1 j (omega (arith, S .lo)))
+      (record { cells-long = S .cells-long; pairing-long = c .before .before .before .before .before .before .before .before .before .before .before .before .before .before .fill .ensures .0 ∙ S .pairing-long; owner-long = c .before .before .before .before .before .before .before .before .before .before .fill2 .ensures .0 ∙ S .owner-long; prices-long = c .before .before .before .before .before .before .fill3 .ensures .0; discounts-long = c .before .before .fill4 .ensures .0 ∙ S .discounts-long; tracks-few = S .tracks-few; reports-few = S .reports-few; cells-good = S .cells-good })
+      (λ i h. c .before .before .before .before .before .before .before .before .before .before .before .before .before .before .fill .ensures .1 i (omega (arith, S .pairing-long)))
+      (λ j h. c .before .before .before .before .before .before .before .before .before .before .fill2 .ensures .1 j (omega (arith, S .owner-long)))
       (λ i h. c .before .before .before .before .before .before .fill3 .ensures .1 i h)
-      (λ j h. c .before .before .fill4 .ensures .1 j (omega (arith, S .lw))),
+      (λ j h. c .before .before .fill4 .ensures .1 j (omega (arith, S .discounts-long))),
   (
-    λ i h. c .before .before .before .before .before .before .before .before .before .before .before .before .before .before .fill .ensures .1 i (omega (arith, S .lp)),
-    λ j h. c .before .before .fill4 .ensures .1 j (omega (arith, S .lw)),
+    λ i h. c .before .before .before .before .before .before .before .before .before .before .before .before .before .before .fill .ensures .1 i (omega (arith, S .pairing-long)),
+    λ j h. c .before .before .fill4 .ensures .1 j (omega (arith, S .discounts-long)),
   ),
 )
 

@@ -9,39 +9,39 @@ array-borrow-prefix-owner : tie.Need-array-borrow-prefix-owner
 array-borrow-prefix-owner c = search needs
 
 slice-aggregate-assign : tie.Need-slice-aggregate-assign
-slice-aggregate-assign c = sym (length-take-le _ _ (c .before .before .before .before .before .before .pre .mm))
+slice-aggregate-assign c = sym (length-take-le _ _ (c .before .before .before .before .before .before .pre .reports-few))
 
-array-borrow-prefix-dist : tie.Need-array-borrow-prefix-dist
-array-borrow-prefix-dist c = search needs
+array-borrow-prefix-labels : tie.Need-array-borrow-prefix-labels
+array-borrow-prefix-labels c = search needs
 
 slice-aggregate-assign-2 : tie.Need-slice-aggregate-assign-2
-slice-aggregate-assign-2 c = sym (length-take-le _ _ (c .before .before .before .before .before .before .before .before .before .pre .mm))
+slice-aggregate-assign-2 c = sym (length-take-le _ _ (c .before .before .before .before .before .before .before .before .before .pre .reports-few))
 
-array-borrow-prefix-par : tie.Need-array-borrow-prefix-par
-array-borrow-prefix-par c = search needs
+array-borrow-prefix-parents : tie.Need-array-borrow-prefix-parents
+array-borrow-prefix-parents c = search needs
 
 slice-aggregate-assign-3 : tie.Need-slice-aggregate-assign-3
-slice-aggregate-assign-3 c = sym (length-take-le _ _ (c .before .before .before .before .before .before .before .before .before .before .pre .mm))
+slice-aggregate-assign-3 c = sym (length-take-le _ _ (c .before .before .before .before .before .before .before .before .before .before .pre .reports-few))
 
-array-borrow-prefix-shut : tie.Need-array-borrow-prefix-shut
-array-borrow-prefix-shut c = search needs
+array-borrow-prefix-closings : tie.Need-array-borrow-prefix-closings
+array-borrow-prefix-closings c = search needs
 
 slice-aggregate-assign-4 : tie.Need-slice-aggregate-assign-4
-slice-aggregate-assign-4 c = sym (length-take-le _ _ (c .before .before .before .before .before .before .before .before .before .before .before .pre .mm))
+slice-aggregate-assign-4 c = sym (length-take-le _ _ (c .before .before .before .before .before .before .before .before .before .before .before .pre .reports-few))
 
 array-borrow-prefix-slack : tie.Need-array-borrow-prefix-slack
 array-borrow-prefix-slack c = search needs
 
 slice-aggregate-assign-5 : tie.Need-slice-aggregate-assign-5
-slice-aggregate-assign-5 c = sym (length-take-le _ _ (c .before .before .before .before .before .before .before .before .before .before .before .before .pre .mm))
+slice-aggregate-assign-5 c = sym (length-take-le _ _ (c .before .before .before .before .before .before .before .before .before .before .before .before .pre .reports-few))
 
 assign-requires : tie.Need-assign-requires
 assign-requires c κs =
     let T = c .before .before .before .before .before .before .before .before .before .before .before .before .pre in
     record {
-      shape = record { lC = T .lC; lp = T .lp; lo = length-take-le _ _ (T .mm); lu = refl; lw = T .lw; nn = T .nn; mm = T .mm; cs = T .cs };
-      rooms = record { ld = length-take-le _ _ (T .mm); lpar = length-take-le _ _ (T .mm); ls = length-take-le _ _ (T .mm) };
-      lk = length-take-le _ _ (T .mm);
+      shape = record { cells-long = T .cells-long; pairing-long = T .pairing-long; owner-long = length-take-le _ _ (T .reports-few); prices-long = refl; discounts-long = T .discounts-long; tracks-few = T .tracks-few; reports-few = T .reports-few; cells-good = T .cells-good };
+      rooms = record { labels-long = length-take-le _ _ (T .reports-few); parents-long = length-take-le _ _ (T .reports-few); closings-long = length-take-le _ _ (T .reports-few) };
+      slack-long = length-take-le _ _ (T .reports-few);
     }
 
 same-length : tie.Need-same-length
@@ -56,7 +56,7 @@ same-length-3 c = search needs
 returns : tie.Need-returns
 returns c =
     let S = c .before .before .before .before .before .before .before .before .before .before .before .assign .ensures in
-    record { lp = S .good .shape .lp; lu = S .good .shape .lu; lw = S .good .shape .lw; shown = shown S }
+    record { pairing-long = S .good .shape .pairing-long; prices-long = S .good .shape .prices-long; discounts-long = S .good .shape .discounts-long; shown = shown S }
 
 pub pair-cells-spec : {M : Type 1} → statement M
 pair-cells-spec =
@@ -64,11 +64,11 @@ pair-cells-spec =
     (tie.spec
     array-borrow-prefix-owner
     slice-aggregate-assign
-    array-borrow-prefix-dist
+    array-borrow-prefix-labels
     slice-aggregate-assign-2
-    array-borrow-prefix-par
+    array-borrow-prefix-parents
     slice-aggregate-assign-3
-    array-borrow-prefix-shut
+    array-borrow-prefix-closings
     slice-aggregate-assign-4
     array-borrow-prefix-slack
     slice-aggregate-assign-5

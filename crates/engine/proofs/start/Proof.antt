@@ -24,14 +24,14 @@ cast-claim : tie.Need-cast-claim Inv-loop μ-loop
 cast-claim c = let s = c .before .before .before .before .before .before .before in
     let a = c .before .loop in
     let G = a .inv .0 in
-    omega (arith, G .shape .lu, G .shape .nn, c .loop-test .taken)
+    omega (arith, G .shape .prices-long, G .shape .tracks-few, c .loop-test .taken)
 
 claim-requires : tie.Need-claim-requires Inv-loop μ-loop
 claim-requires c κs = let s = c .before .before .before .before .before .before .before .before .before .before in
     let a = c .before .before .before .before .loop in
     let G = a .inv .0 in
     let t = c .before .before .before .loop-test .taken in
-    record { good = good-len _ _ _ _ _ _ _ G; rr = t; rp = a .inv .1 .1 (a .track) (omega arith) (omega (arith, G .shape .lu)); zero = s .pre .1 .1 }
+    record { good = good-len _ _ _ _ _ _ _ G; track-in = t; rp = a .inv .1 .1 (a .track) (omega arith) (omega (arith, G .shape .prices-long)); zero = s .pre .1 .1 }
 
 add-track : tie.Need-add-track Inv-loop μ-loop
 add-track c = search needs
@@ -45,7 +45,7 @@ loop-again c = let s = c .before .before .before .before .before .before .before
     let G = a .inv .0 in
     let t = c .before .before .before .before .before .before .before .before .before .before .loop-test .taken in
     let K = c .before .before .before .before .before .before .claim .ensures in
-    (good-at _ _ _ _ _ _ _ _ (G .shape .lu) (K .good), (omega (arith, G .shape .lu), λ i h g. K .others i (λ q. omega arith) (a .inv .1 .1 i (omega arith) g)))
+    (good-at _ _ _ _ _ _ _ _ (G .shape .prices-long) (K .good), (omega (arith, G .shape .prices-long), λ i h g. K .others i (λ q. omega arith) (a .inv .1 .1 i (omega arith) g)))
 
 same-length : tie.Need-same-length Inv-loop μ-loop
 same-length c = search needs

@@ -10,12 +10,12 @@ idx-requires c κs = search needs
 mul-p : tie.Need-mul-p
 mul-p c = let s = c .before .before .before .before .before .before .before .before .before in
     let q = c .idx .ensures in
-    omega (arith, q, s .pre .rr, s .pre .good .shape .lp, s .pre .good .shape .nn)
+    omega (arith, q, s .pre .track-in, s .pre .good .shape .pairing-long, s .pre .good .shape .tracks-few)
 
 slice-read-p : tie.Need-slice-read-p
 slice-read-p c = let s = c .before .before .before .before .before .before .before .before .before .before in
     let q = c .before .idx .ensures in
-    omega (arith, q, s .pre .rr, s .pre .good .shape .lp, s .pre .good .shape .nn)
+    omega (arith, q, s .pre .track-in, s .pre .good .shape .pairing-long, s .pre .good .shape .tracks-few)
 
 returns : tie.Need-returns
 returns c = let s = c .before .before .before .before .before .before .before .before .before .before .before in
@@ -25,12 +25,12 @@ returns c = let s = c .before .before .before .before .before .before .before .b
 mul-v : tie.Need-mul-v
 mul-v c = let s = c .before .before .before .before .before .before .before .before .before .before .before in
     let q = c .before .before .idx .ensures in
-    omega (arith, q, s .pre .rr, s .pre .good .shape .lp, s .pre .good .shape .nn)
+    omega (arith, q, s .pre .track-in, s .pre .good .shape .pairing-long, s .pre .good .shape .tracks-few)
 
 slice-read-v : tie.Need-slice-read-v
 slice-read-v c = let s = c .before .before .before .before .before .before .before .before .before .before .before .before in
     let q = c .before .before .before .idx .ensures in
-    omega (arith, q, s .pre .rr, s .pre .good .shape .lp, s .pre .good .shape .nn)
+    omega (arith, q, s .pre .track-in, s .pre .good .shape .pairing-long, s .pre .good .shape .tracks-few)
 
 returns-2 : tie.Need-returns-2
 returns-2 c = let s = c .before .before .before .before .before .before .before .before .before .before .before .before .before in

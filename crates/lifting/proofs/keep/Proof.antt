@@ -28,7 +28,7 @@ shared-slice-read-gap c = omega (arith, c .before .before .before .before .befor
 gap-requires : tie.Need-gap-requires Inv-loop μ-loop
 gap-requires c κs =
     let g : c .before .before .loop .j < length (c .before .before .before .before .before .args .slack .now) = omega (arith, c .before .before .loop .inv .1 .0, c .before .loop-test .taken) in
-    (c .before .before .before .before .before .pre .cs (c .before .before .loop .j) g, c .before .before .before .before .before .pre .top)
+    (c .before .before .before .before .before .pre .cells-good (c .before .before .loop .j) g, c .before .before .before .before .before .pre .top)
 
 mul-low : tie.Need-mul-low Inv-loop μ-loop
 mul-low c = search needs
@@ -77,7 +77,7 @@ same-length c = search needs
 returns : tie.Need-returns Inv-loop μ-loop
 returns c =
     let v = c .before .loop .inv in
-    record { ls = v .1 .0; less = λ k h. v .1 .1 .0 k (omega (arith, v .1 .0)) .0; room = λ k h. v .1 .1 .0 k (omega (arith, v .1 .0)) .1 }
+    record { slack-long = v .1 .0; less = λ k h. v .1 .1 .0 k (omega (arith, v .1 .0)) .0; room = λ k h. v .1 .1 .0 k (omega (arith, v .1 .0)) .1 }
 
 pub keep-spec : {M : Type 1} → statement M
 keep-spec =

@@ -74,7 +74,7 @@ same-length c = search needs
 returns : tie.Need-returns Inv-loop μ-loop
 returns c =
     let v = c .before .loop .inv in
-    record { la = v .1 .0; alone = λ k h. v .1 .1 .0 k (omega (arith, v .1 .0)) .0; paired = λ k h. v .1 .1 .0 k (omega (arith, v .1 .0)) .1 }
+    record { same-long = v .1 .0; alone = λ k h. v .1 .1 .0 k (omega (arith, v .1 .0)) .0; paired = λ k h. v .1 .1 .0 k (omega (arith, v .1 .0)) .1 }
 
 pub raise-paired-spec : {M : Type 1} → statement M
 raise-paired-spec =

@@ -63,7 +63,7 @@ same-length c = search needs
 returns : tie.Need-returns Inv-loop μ-loop
 returns c =
     let v = c .before .loop .inv in
-    record { ls = v .1 .0; left = λ k h. v .1 .1 .0 k (omega (arith, v .1 .0)) }
+    record { slack-long = v .1 .0; left = λ k h. v .1 .1 .0 k (omega (arith, v .1 .0)) }
 
 pub spend-spec : {M : Type 1} → statement M
 spend-spec =

@@ -10,10 +10,10 @@ use Rattle.lifting.proofs.tighten.Statement.{statement}
 use Rattle.lifting.proofs.tighten.Tie as tie
 
 abbrev Inv-loop : tie.InvT-loop
-Inv-loop dist d slack₀ j₀ slack j = (j ≤ length slack₀) × ((length slack ≡ length slack₀) × (((k : ℕ) → k < j → (at slack k ≤ at slack₀ k) × (at slack k ≤ at dist k - d)) × ((k : ℕ) → j ≤ k → at slack k ≡ at slack₀ k)))
+Inv-loop labels d slack₀ j₀ slack j = (j ≤ length slack₀) × ((length slack ≡ length slack₀) × (((k : ℕ) → k < j → (at slack k ≤ at slack₀ k) × (at slack k ≤ at labels k - d)) × ((k : ℕ) → j ≤ k → at slack k ≡ at slack₀ k)))
 
 abbrev μ-loop : tie.MeasureT-loop
-μ-loop dist d slack₀ j₀ slack j = length slack₀ - j
+μ-loop labels d slack₀ j₀ slack j = length slack₀ - j
 
 loop-holds : tie.Need-loop-holds Inv-loop μ-loop
 loop-holds c = (search needs, (refl, (below-none _, λ k h. refl)))
@@ -25,7 +25,7 @@ shared-slice-read-beyond : tie.Need-shared-slice-read-beyond Inv-loop μ-loop
 shared-slice-read-beyond c = omega (arith, c .before .before .before .before .before .pre .same, c .before .before .loop .inv .1 .0)
 
 beyond-requires : tie.Need-beyond-requires Inv-loop μ-loop
-beyond-requires c κs = (omega (arith, c .before .before .before .before .before .pre .labels (c .before .before .loop .j) (omega (arith, c .before .before .before .before .before .pre .same, c .before .before .loop .inv .1 .0, c .before .loop-test .taken))), omega (arith, c .before .before .before .before .before .pre .end))
+beyond-requires c κs = (omega (arith, c .before .before .before .before .before .pre .labels-small (c .before .before .loop .j) (omega (arith, c .before .before .before .before .before .pre .same, c .before .before .loop .inv .1 .0, c .before .loop-test .taken))), omega (arith, c .before .before .before .before .before .pre .end))
 
 mul-low : tie.Need-mul-low Inv-loop μ-loop
 mul-low c = search needs
@@ -36,7 +36,7 @@ slice-read-low c = search needs
 low-requires : tie.Need-low-requires Inv-loop μ-loop
 low-requires c κs =
     let g : c .before .before .before .before .loop .j < length (c .before .before .before .before .before .before .before .args .slack .now) = omega (arith, c .before .before .before .before .loop .inv .1 .0, c .before .before .before .loop-test .taken) in
-    (omega (arith, c .before .beyond .ensures, c .before .before .before .before .before .before .before .pre .labels (c .before .before .before .before .loop .j) (omega (arith, c .before .before .before .before .before .before .before .pre .same))), omega (arith, c .before .before .before .before .before .before .before .pre .small (c .before .before .before .before .loop .j) g, c .before .before .before .before .loop .inv .1 .1 .1 (c .before .before .before .before .loop .j) (omega arith)))
+    (omega (arith, c .before .beyond .ensures, c .before .before .before .before .before .before .before .pre .labels-small (c .before .before .before .before .loop .j) (omega (arith, c .before .before .before .before .before .before .before .pre .same))), omega (arith, c .before .before .before .before .before .before .before .pre .small (c .before .before .before .before .loop .j) g, c .before .before .before .before .loop .inv .1 .1 .1 (c .before .before .before .before .loop .j) (omega arith)))
 
 mul-slack : tie.Need-mul-slack Inv-loop μ-loop
 mul-slack c = search needs
@@ -60,7 +60,7 @@ loop-again c =
       (
         simp length-set (v .1 .0),
         (
-          upd (λ (k x : ℕ). (x ≤ at (c .before .before .before .before .before .before .before .before .args .slack .now) k) × (x ≤ at (c .before .before .before .before .before .before .before .before .args .dist .now) k - c .before .before .before .before .before .before .before .before .args .d)) (a .slack) (a .j) _ t (v .1 .1 .0)
+          upd (λ (k x : ℕ). (x ≤ at (c .before .before .before .before .before .before .before .before .args .slack .now) k) × (x ≤ at (c .before .before .before .before .before .before .before .before .args .labels .now) k - c .before .before .before .before .before .before .before .before .args .d)) (a .slack) (a .j) _ t (v .1 .1 .0)
               (omega (arith, l .1 .0, v .1 .1 .1 (a .j) (omega arith)), omega (arith, l .0, c .before .before .beyond .ensures)),
           keep (a .slack) (c .before .before .before .before .before .before .before .before .args .slack .now) (a .j) _ (v .1 .1 .1),
         ),
@@ -73,7 +73,7 @@ same-length c = search needs
 returns : tie.Need-returns Inv-loop μ-loop
 returns c =
     let v = c .before .loop .inv in
-    record { ls = v .1 .0; less = λ k h. v .1 .1 .0 k (omega (arith, v .1 .0)) .0; room = λ k h. v .1 .1 .0 k (omega (arith, v .1 .0)) .1 }
+    record { slack-long = v .1 .0; less = λ k h. v .1 .1 .0 k (omega (arith, v .1 .0)) .0; room = λ k h. v .1 .1 .0 k (omega (arith, v .1 .0)) .1 }
 
 pub tighten-spec : {M : Type 1} → statement M
 tighten-spec =

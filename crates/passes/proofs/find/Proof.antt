@@ -9,10 +9,10 @@ use Rattle.passes.proofs.find.Statement.{statement}
 use Rattle.passes.proofs.find.Tie as tie
 
 abbrev Inv-loop : tie.InvT-loop
-Inv-loop dist shut v j₀ j = (j ≤ length dist) × ((k : ℕ) → k < j → at dist k + at shut k ≡ v → ⊥)
+Inv-loop labels closings v j₀ j = (j ≤ length labels) × ((k : ℕ) → k < j → at labels k + at closings k ≡ v → ⊥)
 
 abbrev μ-loop : tie.MeasureT-loop
-μ-loop dist shut v j₀ j = length dist - j
+μ-loop labels closings v j₀ j = length labels - j
 
 loop-holds : tie.Need-loop-holds Inv-loop μ-loop
 loop-holds c = search needs

@@ -13,10 +13,10 @@ use Rattle.passes.proofs.least.Statement.{statement}
 use Rattle.passes.proofs.least.Tie as tie
 
 abbrev Inv-loop : tie.InvT-loop
-Inv-loop dist shut cap best₀ j₀ best j = (j ≤ length dist) × ((best ≤ cap) × (((k : ℕ) → k < j → best ≤ at dist k + at shut k) × ((best ≡ cap) ⊎ ((k : ℕ) × ((k < length dist) × (at dist k + at shut k ≡ best))))))
+Inv-loop labels closings cap best₀ j₀ best j = (j ≤ length labels) × ((best ≤ cap) × (((k : ℕ) → k < j → best ≤ at labels k + at closings k) × ((best ≡ cap) ⊎ ((k : ℕ) × ((k < length labels) × (at labels k + at closings k ≡ best))))))
 
 abbrev μ-loop : tie.MeasureT-loop
-μ-loop dist shut cap best₀ j₀ best j = length dist - j
+μ-loop labels closings cap best₀ j₀ best j = length labels - j
 
 loop-holds : tie.Need-loop-holds Inv-loop μ-loop
 loop-holds c = (search needs, (search needs, (below-none _, inl refl)))
@@ -58,7 +58,7 @@ loop-again c = let a = c .before .before .before .before in
           below-more _ _ (λ k h. omega (arith, a .loop .inv .1 .1 .0 k h)) (search needs),
           ⊎-elim (λ g. ⊎-elim (λ e. inl (omega (arith, l .1 .1 .1 g))) (λ s. inr (s .0, (s .1 .0, omega (arith, s .1 .1, l .1 .1 .1 g)))) (a .loop .inv .1 .1 .1))
               (λ g. inr (a .loop .j, (c .before .before .before .loop-test .taken, omega (arith, l .1 .1 .0 g))))
-              (le-or-lt (a .loop .best) (at (a .before .before .before .args .dist .now) (a .loop .j) + at (a .before .before .before .args .shut .now) (a .loop .j))),
+              (le-or-lt (a .loop .best) (at (a .before .before .before .args .labels .now) (a .loop .j) + at (a .before .before .before .args .closings .now) (a .loop .j))),
         ),
       ),
     )

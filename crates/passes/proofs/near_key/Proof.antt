@@ -13,10 +13,10 @@ use Rattle.passes.proofs.near_key.Statement.{statement}
 use Rattle.passes.proofs.near_key.Tie as tie
 
 abbrev Inv-loop : tie.InvT-loop
-Inv-loop dist shut best₀ j₀ best j = (j ≤ length dist) × ((best < 2 ^ 31) × (((k : ℕ) → k < j → best / mostColumns ≤ at dist k + at shut k) × (best / mostColumns < near → (best % mostColumns < length dist) × (at dist (best % mostColumns) + at shut (best % mostColumns) ≡ best / mostColumns))))
+Inv-loop labels closings best₀ j₀ best j = (j ≤ length labels) × ((best < 2 ^ 31) × (((k : ℕ) → k < j → best / mostColumns ≤ at labels k + at closings k) × (best / mostColumns < near → (best % mostColumns < length labels) × (at labels (best % mostColumns) + at closings (best % mostColumns) ≡ best / mostColumns))))
 
 abbrev μ-loop : tie.MeasureT-loop
-μ-loop dist shut best₀ j₀ best j = length dist - j
+μ-loop labels closings best₀ j₀ best j = length labels - j
 
 loop-holds : tie.Need-loop-holds Inv-loop μ-loop
 loop-holds c = (search needs, (omega arith, (below-none _, λ h. absurd (omega arith))))
@@ -62,7 +62,7 @@ loop-again c =
         omega (arith, l .1 .0),
         (
           below-more _ _ (λ k h. near-low _ _ _ (l .1 .0) (a .inv .1 .1 .0 k h)) (near-here _ _ _ _ (l .0) q (e .0) (e .1 .0)),
-          ⊎-elim (λ g. rw (l .1 .1 .1 g) (a .inv .1 .1 .1)) (λ g. rw (l .1 .1 .0 g) (near-met (c .before .before .before .before .before .before .before .before .args .dist .now) (c .before .before .before .before .before .before .before .before .args .shut .now) _ _ q (c .before .before .before .before .loop-test .taken) (e .0) (e .1 .0))) (le-or-lt (a .best) (c .before .near-of .result)),
+          ⊎-elim (λ g. rw (l .1 .1 .1 g) (a .inv .1 .1 .1)) (λ g. rw (l .1 .1 .0 g) (near-met (c .before .before .before .before .before .before .before .before .args .labels .now) (c .before .before .before .before .before .before .before .before .args .closings .now) _ _ q (c .before .before .before .before .loop-test .taken) (e .0) (e .1 .0))) (le-or-lt (a .best) (c .before .near-of .result)),
         ),
       ),
     )

@@ -34,7 +34,7 @@ nearest-requires : tie.Need-nearest-requires
 nearest-requires c κs = from-labels _ _ _ _ (c .before .before .before .before .pre)
 
 add-result : tie.Need-add-result
-add-result c = omega (arith, c .nearest .ensures .upto, part-length (c .before .before .before .before .before .args .dist .now) (c .before .before .before .before .before .args .lo) (length (c .before .before .before .before .before .args .dist .now)) (omega arith), c .before .before .before .before .before .pre .upto)
+add-result c = omega (arith, c .nearest .ensures .upto, part-length (c .before .before .before .before .before .args .labels .now) (c .before .before .before .before .before .args .lo) (length (c .before .before .before .before .before .args .labels .now)) (omega arith), c .before .before .before .before .before .pre .upto)
 
 returns : tie.Need-returns
 returns c = from-nearest _ _ _ _ (c .before .before .before .before .before .pre) _ (c .nearest .ensures)

@@ -10,10 +10,10 @@ use Rattle.passes.proofs.raise_cols.Statement.{statement}
 use Rattle.passes.proofs.raise_cols.Tie as tie
 
 abbrev Inv-loop : tie.InvT-loop
-Inv-loop dist d discounts₀ j₀ discounts j = (j ≤ length discounts₀) × ((length discounts ≡ length discounts₀) × (((k : ℕ) → k < j → at discounts k ≡ at discounts₀ k + (d - at dist k)) × ((k : ℕ) → j ≤ k → at discounts k ≡ at discounts₀ k)))
+Inv-loop labels d discounts₀ j₀ discounts j = (j ≤ length discounts₀) × ((length discounts ≡ length discounts₀) × (((k : ℕ) → k < j → at discounts k ≡ at discounts₀ k + (d - at labels k)) × ((k : ℕ) → j ≤ k → at discounts k ≡ at discounts₀ k)))
 
 abbrev μ-loop : tie.MeasureT-loop
-μ-loop dist d discounts₀ j₀ discounts j = length discounts₀ - j
+μ-loop labels d discounts₀ j₀ discounts j = length discounts₀ - j
 
 loop-holds : tie.Need-loop-holds Inv-loop μ-loop
 loop-holds c = (search needs, (refl, (below-none _, λ k h. refl)))
@@ -60,7 +60,7 @@ loop-again c = let s = c .before .before .before .before .before .before .before
       (
         simp length-set (v .1 .0),
         (
-          upd (λ (k x : ℕ). x ≡ at (s .args .discounts .now) k + (s .args .d - at (s .args .dist .now) k)) (a .discounts) (a .j) _ (c .before .before .before .loop-test .taken) (v .1 .1 .0)
+          upd (λ (k x : ℕ). x ≡ at (s .args .discounts .now) k + (s .args .d - at (s .args .labels .now) k)) (a .discounts) (a .j) _ (c .before .before .before .loop-test .taken) (v .1 .1 .0)
               (omega (arith, c .over .ensures, v .1 .1 .1 (a .j) (omega arith))),
           keep (a .discounts) (s .args .discounts .now) (a .j) _ (v .1 .1 .1),
         ),
@@ -74,7 +74,7 @@ returns : tie.Need-returns Inv-loop μ-loop
 returns c = let s = c .before .before .before .before in
     let a = c .before .loop in
     let v = a .inv in
-    record { lw = v .1 .0; up = λ k h. v .1 .1 .0 k (omega (arith, v .1 .0)) }
+    record { discounts-long = v .1 .0; up = λ k h. v .1 .1 .0 k (omega (arith, v .1 .0)) }
 
 pub raise-cols-spec : {M : Type 1} → statement M
 raise-cols-spec =

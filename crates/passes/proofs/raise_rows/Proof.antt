@@ -8,10 +8,10 @@ use Rattle.passes.proofs.raise_rows.Statement.{statement}
 use Rattle.passes.proofs.raise_rows.Tie as tie
 
 abbrev Inv-loop : tie.InvT-loop
-Inv-loop pairing owner dist d prices₀ j₀ prices j = (j ≤ length dist) × ((length prices ≡ length prices₀) × Upto pairing dist d prices₀ j prices)
+Inv-loop pairing owner labels d prices₀ j₀ prices j = (j ≤ length labels) × ((length prices ≡ length prices₀) × Upto pairing labels d prices₀ j prices)
 
 abbrev μ-loop : tie.MeasureT-loop
-μ-loop pairing owner dist d prices₀ j₀ prices j = length dist - j
+μ-loop pairing owner labels d prices₀ j₀ prices j = length labels - j
 
 loop-holds : tie.Need-loop-holds Inv-loop μ-loop
 loop-holds c = (search needs, (refl, λ i h. ((λ g. absurd (omega arith)), λ g. refl)))
@@ -34,7 +34,7 @@ over-requires c κs = search needs
 topup-requires : tie.Need-topup-requires Inv-loop μ-loop
 topup-requires c κs = let a = c .before .before .before .before .before in
     let s = a .before .before .before .before .before in
-    may (s .args .pairing .now) (s .args .owner .now) (s .args .dist .now) (s .args .prices .now) (s .args .d) (s .pre) (a .loop .j) (c .before .before .before .before .loop-test .taken) (a .loop .prices) (a .loop .inv .1 .0) (a .loop .inv .1 .1) (c .over .result) (c .over .ensures)
+    may (s .args .pairing .now) (s .args .owner .now) (s .args .labels .now) (s .args .prices .now) (s .args .d) (s .pre) (a .loop .j) (c .before .before .before .before .loop-test .taken) (a .loop .prices) (a .loop .inv .1 .0) (a .loop .inv .1 .1) (c .over .result) (c .over .ensures)
 
 add-j : tie.Need-add-j Inv-loop μ-loop
 add-j c = search needs
@@ -46,14 +46,14 @@ loop-again : tie.Need-loop-again Inv-loop μ-loop
 loop-again c = let a = c .before .before .before .before .before .before .before .before in
     let s = a .before .before .before .before .before in
     let L = c .before .before .topup .ensures in
-    (search needs, (L .lu ∙ a .loop .inv .1 .0, raised _ _ _ _ _ (s .pre) (a .loop .j) (c .before .before .before .before .before .before .before .loop-test .taken) _ (a .loop .inv .1 .0) (a .loop .inv .1 .1) _ (c .before .before .before .over .ensures) _ L))
+    (search needs, (L .prices-long ∙ a .loop .inv .1 .0, raised _ _ _ _ _ (s .pre) (a .loop .j) (c .before .before .before .before .before .before .before .loop-test .taken) _ (a .loop .inv .1 .0) (a .loop .inv .1 .1) _ (c .before .before .before .over .ensures) _ L))
 
 same-length : tie.Need-same-length Inv-loop μ-loop
 same-length c = search needs
 
 returns : tie.Need-returns Inv-loop μ-loop
 returns c = let v = c .before .loop .inv in
-    record { lu = v .1 .0; up = λ i h. ((λ g. v .1 .1 i h .0 (omega arith)), λ g. v .1 .1 i h .1 (omega arith)) }
+    record { prices-long = v .1 .0; up = λ i h. ((λ g. v .1 .1 i h .0 (omega arith)), λ g. v .1 .1 i h .1 (omega arith)) }
 
 pub raise-rows-spec : {M : Type 1} → statement M
 raise-rows-spec =

@@ -12,13 +12,13 @@ use Rattle.passes.proofs.relax.Statement.{statement}
 use Rattle.passes.proofs.relax.Tie as tie
 
 abbrev Inv-loop : tie.InvT-loop
-Inv-loop c w d u i dist₀ par₀ j₀ dist par j = Going c w d u i dist₀ par₀ j dist par
+Inv-loop c w d u i labels₀ parents₀ j₀ labels parents j = Going c w d u i labels₀ parents₀ j labels parents
 
 abbrev μ-loop : tie.MeasureT-loop
-μ-loop c w d u i dist₀ par₀ j₀ dist par j = length dist₀ - j
+μ-loop c w d u i labels₀ parents₀ j₀ labels parents j = length labels₀ - j
 
 loop-holds : tie.Need-loop-holds Inv-loop μ-loop
-loop-holds c = record { in-range = search needs; ld = refl; lp = c .before .before .before .before .pre .lp; steps = below-none _; rest-d = λ k h. refl; rest-p = λ k h. refl }
+loop-holds c = record { in-range = search needs; labels-long = refl; parents-long = c .before .before .before .before .pre .parents-long; steps = below-none _; rest-d = λ k h. refl; rest-p = λ k h. refl }
 
 mul-offer : tie.Need-mul-offer Inv-loop μ-loop
 mul-offer c = search needs
@@ -36,8 +36,8 @@ offer-requires : tie.Need-offer-requires Inv-loop μ-loop
 offer-requires c κs = let a = c .before .before .before in
     let p = a .before .before .before .before .before .pre in
     let j = a .loop .j in
-    let h : j < length (a .before .before .before .before .before .args .dist .now) = omega (arith, a .loop .inv .ld) in
-    (p .ww j h, (p .du, (p .uu, (p .ok j h, p .cs j h))))
+    let h : j < length (a .before .before .before .before .before .args .labels .now) = omega (arith, a .loop .inv .labels-long) in
+    (p .ww j h, (p .du, (p .uu, (p .ok j h, p .cells-good j h))))
 
 mul-od : tie.Need-mul-od Inv-loop μ-loop
 mul-od c = search needs
@@ -55,31 +55,31 @@ low-requires : tie.Need-low-requires Inv-loop μ-loop
 low-requires c κs = let a = c .before .before .before .before .before .before in
     let s = a .before .before .before .before .before in
     let j = a .loop .j in
-    let h : j < length (s .args .dist .now) = omega (arith, a .loop .inv .ld) in
-    let e : at (a .loop .dist) j ≡ at (s .args .dist .now) j = a .loop .inv .rest-d j (omega arith) in
-    let q : at (a .loop .dist) j < 2 ^ 31 = omega (arith, s .pre .dd j h) in
+    let h : j < length (s .args .labels .now) = omega (arith, a .loop .inv .labels-long) in
+    let e : at (a .loop .labels) j ≡ at (s .args .labels .now) j = a .loop .inv .rest-d j (omega arith) in
+    let q : at (a .loop .labels) j < 2 ^ 31 = omega (arith, s .pre .label-in j h) in
     (c .before .before .offer .ensures .1 .1, q)
 
-mul-dist : tie.Need-mul-dist Inv-loop μ-loop
-mul-dist c = search needs
+mul-labels : tie.Need-mul-labels Inv-loop μ-loop
+mul-labels c = search needs
 
-slice-write-dist : tie.Need-slice-write-dist Inv-loop μ-loop
-slice-write-dist c = search needs
+slice-write-labels : tie.Need-slice-write-labels Inv-loop μ-loop
+slice-write-labels c = search needs
 
 pick-requires : tie.Need-pick-requires Inv-loop μ-loop
 pick-requires c κs = let a = c .before .before .before .before .before .before .before in
     let s = a .before .before .before .before .before in
     let j = a .loop .j in
-    let h : j < length (s .args .dist .now) = omega (arith, a .loop .inv .ld) in
-    let e : at (a .loop .dist) j ≡ at (s .args .dist .now) j = a .loop .inv .rest-d j (omega arith) in
-    let q : at (a .loop .dist) j < 2 ^ 31 = omega (arith, s .pre .dd j h) in
+    let h : j < length (s .args .labels .now) = omega (arith, a .loop .inv .labels-long) in
+    let e : at (a .loop .labels) j ≡ at (s .args .labels .now) j = a .loop .inv .rest-d j (omega arith) in
+    let q : at (a .loop .labels) j < 2 ^ 31 = omega (arith, s .pre .label-in j h) in
     (c .before .before .before .offer .ensures .1 .1, q)
 
-mul-par : tie.Need-mul-par Inv-loop μ-loop
-mul-par c = search needs
+mul-parents : tie.Need-mul-parents Inv-loop μ-loop
+mul-parents c = search needs
 
-slice-write-par : tie.Need-slice-write-par Inv-loop μ-loop
-slice-write-par c = search needs
+slice-write-parents : tie.Need-slice-write-parents Inv-loop μ-loop
+slice-write-parents c = search needs
 
 add-j : tie.Need-add-j Inv-loop μ-loop
 add-j c = search needs
@@ -93,23 +93,23 @@ loop-again c = let a = c .before .before .before .before .before .before .before
     let p = s .pre in
     let j = a .loop .j in
     let v = a .loop .inv in
-    let g : j < length (a .loop .dist) = c .before .before .before .before .before .before .before .loop-test .taken in
-    let h : j < length (s .args .dist .now) = omega (arith, v .ld) in
-    let e : at (a .loop .dist) j ≡ at (s .args .dist .now) j = v .rest-d j (omega arith) in
-    let f : at (a .loop .par) j ≡ at (s .args .par .now) j = v .rest-p j (omega arith) in
+    let g : j < length (a .loop .labels) = c .before .before .before .before .before .before .before .loop-test .taken in
+    let h : j < length (s .args .labels .now) = omega (arith, v .labels-long) in
+    let e : at (a .loop .labels) j ≡ at (s .args .labels .now) j = v .rest-d j (omega arith) in
+    let f : at (a .loop .parents) j ≡ at (s .args .parents .now) j = v .rest-p j (omega arith) in
     let o = c .before .before .before .before .offer in
     let l = c .before .low in
-    let t : Step (at (s .args .cells .now) j) (at (s .args .discounts .now) j) (s .args .label) (s .args .price) (s .args .track) (at (a .loop .dist) j) (at (a .loop .par) j) (l .result) (c .pick .result) =
-    step _ _ _ _ _ _ _ (o .result) _ _ (o .ensures .0) (o .ensures .1 .0) (omega (arith, p .dd j h, e))
+    let t : Step (at (s .args .cells .now) j) (at (s .args .discounts .now) j) (s .args .label) (s .args .price) (s .args .track) (at (a .loop .labels) j) (at (a .loop .parents) j) (l .result) (c .pick .result) =
+    step _ _ _ _ _ _ _ (o .result) _ _ (o .ensures .0) (o .ensures .1 .0) (omega (arith, p .label-in j h, e))
     (l .ensures .0) (l .ensures .1 .0) (l .ensures .1 .1 .0) (l .ensures .1 .1 .1) (c .pick .ensures .0) (c .pick .ensures .1) in
     record {
       in-range = omega arith;
-      ld = simp length-set (v .ld);
-      lp = simp length-set (v .lp);
-      steps = upd2 (λ (k x y : ℕ). Step (at (s .args .cells .now) k) (at (s .args .discounts .now) k) (s .args .label) (s .args .price) (s .args .track) (at (s .args .dist .now) k) (at (s .args .par .now) k) x y)
-          (a .loop .dist) (a .loop .par) j _ _ g (omega (arith, v .lp, v .ld)) (v .steps) (rw (e, f) at t);
-      rest-d = keep (a .loop .dist) (s .args .dist .now) j _ (v .rest-d);
-      rest-p = keep (a .loop .par) (s .args .par .now) j _ (v .rest-p);
+      labels-long = simp length-set (v .labels-long);
+      parents-long = simp length-set (v .parents-long);
+      steps = upd2 (λ (k x y : ℕ). Step (at (s .args .cells .now) k) (at (s .args .discounts .now) k) (s .args .label) (s .args .price) (s .args .track) (at (s .args .labels .now) k) (at (s .args .parents .now) k) x y)
+          (a .loop .labels) (a .loop .parents) j _ _ g (omega (arith, v .parents-long, v .labels-long)) (v .steps) (rw (e, f) at t);
+      rest-d = keep (a .loop .labels) (s .args .labels .now) j _ (v .rest-d);
+      rest-p = keep (a .loop .parents) (s .args .parents .now) j _ (v .rest-p);
     }
 
 same-length : tie.Need-same-length Inv-loop μ-loop
@@ -119,7 +119,7 @@ same-length-2 : tie.Need-same-length-2 Inv-loop μ-loop
 same-length-2 c = search needs
 
 returns : tie.Need-returns Inv-loop μ-loop
-returns c = record { ld = c .before .loop .inv .ld; lp = c .before .loop .inv .lp; steps = λ k h. c .before .loop .inv .steps k (omega (arith, c .before .loop .inv .ld)) }
+returns c = record { labels-long = c .before .loop .inv .labels-long; parents-long = c .before .loop .inv .parents-long; steps = λ k h. c .before .loop .inv .steps k (omega (arith, c .before .loop .inv .labels-long)) }
 
 pub relax-spec : {M : Type 1} → statement M
 relax-spec =
@@ -138,11 +138,11 @@ relax-spec =
     mul-op
     slice-read-op
     low-requires
-    mul-dist
-    slice-write-dist
+    mul-labels
+    slice-write-labels
     pick-requires
-    mul-par
-    slice-write-par
+    mul-parents
+    slice-write-parents
     add-j
     loop-less
     loop-again

@@ -30,14 +30,14 @@ mul-s c = search needs
 
 slice-read-s : tie.Need-slice-read-s
 slice-read-s c = let s = c .before .before .before .before .before .before .before .before .before .before .before in
-    omega (arith, left-out _ _ _ _ _ _ _ _ _ _ _ _ (s .pre) (c .before .before .before .if1 .left) (c .before .before .if2 .left) .0, c .before .idx .ensures, s .pre .shape .lp)
+    omega (arith, left-out _ _ _ _ _ _ _ _ _ _ _ _ (s .pre) (c .before .before .before .if1 .left) (c .before .before .if2 .left) .0, c .before .idx .ensures, s .pre .shape .pairing-long)
 
 mul-pairing : tie.Need-mul-pairing
 mul-pairing c = search needs
 
 slice-write-pairing : tie.Need-slice-write-pairing
 slice-write-pairing c = let s = c .before .before .before .before .before .before .before .before .before .before .before in
-    omega (arith, left-out _ _ _ _ _ _ _ _ _ _ _ _ (s .pre) (c .before .before .before .if1 .left) (c .before .before .if2 .left) .0, c .before .idx .ensures, s .pre .shape .lp)
+    omega (arith, left-out _ _ _ _ _ _ _ _ _ _ _ _ (s .pre) (c .before .before .before .if1 .left) (c .before .before .if2 .left) .0, c .before .idx .ensures, s .pre .shape .pairing-long)
 
 flip-requires-2 : tie.Need-flip-requires-2
 flip-requires-2 c κs = let s = c .before .before .before .before .before .before .before .before .before .before .before .before .before in

@@ -9,10 +9,10 @@ use Rattle.paths.proofs.flip.Statement.{statement}
 use Rattle.paths.proofs.flip.Tie as tie
 
 abbrev Inv-loop : tie.InvT-loop
-Inv-loop sheet m prices discounts track par shut start pairing₀ owner₀ h₀ pairing owner h = Flips sheet m (length prices) prices discounts track par shut pairing₀ owner₀ pairing owner h
+Inv-loop sheet m prices discounts track parents closings start pairing₀ owner₀ h₀ pairing owner h = Flips sheet m (length prices) prices discounts track parents closings pairing₀ owner₀ pairing owner h
 
 abbrev μ-loop : tie.MeasureT-loop
-μ-loop sheet m prices discounts track par shut start pairing₀ owner₀ h₀ pairing owner h = at shut h
+μ-loop sheet m prices discounts track parents closings start pairing₀ owner₀ h₀ pairing owner h = at closings h
 
 loop-holds : tie.Need-loop-holds Inv-loop μ-loop
 loop-holds c = search needs
@@ -25,14 +25,14 @@ mul-i c = let s = c .before .before .before .before .before .before .before .bef
     let a = c .before .before .loop in
     let F = a .inv in
     let hn = c .before .loop-test .taken in
-    omega (arith, holed _ _ _ _ _ _ _ _ _ _ _ _ _ F hn .hm, c .idx .ensures, F .lpar, F .shape .mm)
+    omega (arith, holed _ _ _ _ _ _ _ _ _ _ _ _ _ F hn .hole-in, c .idx .ensures, F .parents-long, F .shape .reports-few)
 
 shared-slice-read-i : tie.Need-shared-slice-read-i Inv-loop μ-loop
 shared-slice-read-i c = let s = c .before .before .before .before .before .before .before .before .before .before .before in
     let a = c .before .before .before .loop in
     let F = a .inv in
     let hn = c .before .before .loop-test .taken in
-    omega (arith, holed _ _ _ _ _ _ _ _ _ _ _ _ _ F hn .hm, c .before .idx .ensures, F .lpar, F .shape .mm)
+    omega (arith, holed _ _ _ _ _ _ _ _ _ _ _ _ _ F hn .hole-in, c .before .idx .ensures, F .parents-long, F .shape .reports-few)
 
 idx-requires-2 : tie.Need-idx-requires-2 Inv-loop μ-loop
 idx-requires-2 c κs = search needs
@@ -42,42 +42,42 @@ mul-next c = let s = c .before .before .before .before .before .before .before .
     let a = c .before .before .before .before .loop in
     let F = a .inv in
     let hn = c .before .before .before .loop-test .taken in
-    omega (arith, row-of _ _ _ _ _ _ _ _ _ _ _ _ _ F hn _ _ (c .before .before .idx .ensures) (c .idx2 .ensures), F .shape .lp, F .shape .nn)
+    omega (arith, row-of _ _ _ _ _ _ _ _ _ _ _ _ _ F hn _ _ (c .before .before .idx .ensures) (c .idx2 .ensures), F .shape .pairing-long, F .shape .tracks-few)
 
 slice-read-next : tie.Need-slice-read-next Inv-loop μ-loop
 slice-read-next c = let s = c .before .before .before .before .before .before .before .before .before .before .before .before .before in
     let a = c .before .before .before .before .before .loop in
     let F = a .inv in
     let hn = c .before .before .before .before .loop-test .taken in
-    omega (arith, row-of _ _ _ _ _ _ _ _ _ _ _ _ _ F hn _ _ (c .before .before .before .idx .ensures) (c .before .idx2 .ensures), F .shape .lp, F .shape .nn)
+    omega (arith, row-of _ _ _ _ _ _ _ _ _ _ _ _ _ F hn _ _ (c .before .before .before .idx .ensures) (c .before .idx2 .ensures), F .shape .pairing-long, F .shape .tracks-few)
 
 mul-pairing : tie.Need-mul-pairing Inv-loop μ-loop
 mul-pairing c = let s = c .before .before .before .before .before .before .before .before .before .before .before .before .before in
     let a = c .before .before .before .before .before .loop in
     let F = a .inv in
     let hn = c .before .before .before .before .loop-test .taken in
-    omega (arith, row-of _ _ _ _ _ _ _ _ _ _ _ _ _ F hn _ _ (c .before .before .before .idx .ensures) (c .before .idx2 .ensures), F .shape .lp, F .shape .nn)
+    omega (arith, row-of _ _ _ _ _ _ _ _ _ _ _ _ _ F hn _ _ (c .before .before .before .idx .ensures) (c .before .idx2 .ensures), F .shape .pairing-long, F .shape .tracks-few)
 
 slice-write-pairing : tie.Need-slice-write-pairing Inv-loop μ-loop
 slice-write-pairing c = let s = c .before .before .before .before .before .before .before .before .before .before .before .before .before in
     let a = c .before .before .before .before .before .loop in
     let F = a .inv in
     let hn = c .before .before .before .before .loop-test .taken in
-    omega (arith, row-of _ _ _ _ _ _ _ _ _ _ _ _ _ F hn _ _ (c .before .before .before .idx .ensures) (c .before .idx2 .ensures), F .shape .lp, F .shape .nn)
+    omega (arith, row-of _ _ _ _ _ _ _ _ _ _ _ _ _ F hn _ _ (c .before .before .before .idx .ensures) (c .before .idx2 .ensures), F .shape .pairing-long, F .shape .tracks-few)
 
 mul-owner : tie.Need-mul-owner Inv-loop μ-loop
 mul-owner c = let s = c .before .before .before .before .before .before .before .before .before .before .before .before .before in
     let a = c .before .before .before .before .before .loop in
     let F = a .inv in
     let hn = c .before .before .before .before .loop-test .taken in
-    omega (arith, holed _ _ _ _ _ _ _ _ _ _ _ _ _ F hn .hm, c .before .before .before .idx .ensures, F .shape .lo, F .shape .mm)
+    omega (arith, holed _ _ _ _ _ _ _ _ _ _ _ _ _ F hn .hole-in, c .before .before .before .idx .ensures, F .shape .owner-long, F .shape .reports-few)
 
 slice-write-owner : tie.Need-slice-write-owner Inv-loop μ-loop
 slice-write-owner c = let s = c .before .before .before .before .before .before .before .before .before .before .before .before .before in
     let a = c .before .before .before .before .before .loop in
     let F = a .inv in
     let hn = c .before .before .before .before .loop-test .taken in
-    omega (arith, holed _ _ _ _ _ _ _ _ _ _ _ _ _ F hn .hm, c .before .before .before .idx .ensures, F .shape .lo, F .shape .mm)
+    omega (arith, holed _ _ _ _ _ _ _ _ _ _ _ _ _ F hn .hole-in, c .before .before .before .idx .ensures, F .shape .owner-long, F .shape .reports-few)
 
 loop-less : tie.Need-loop-less Inv-loop μ-loop
 loop-less c = let s = c .before .before .before .before .before .before .before .before .before .before .before .before .before in
@@ -103,7 +103,7 @@ returns : tie.Need-returns Inv-loop μ-loop
 returns c = let s = c .before .before .before .before .before .before .before .before .before in
     let a = c .before .loop in
     let F = a .inv in
-    record { shape = F .shape; moved = F .moved; whole = ⊎-elim (λ x. absurd (omega (arith, x .hm, F .shape .mm, c .loop-test .left))) (λ x. x .1) (F .state); kept = F .kept }
+    record { shape = F .shape; moved = F .moved; whole = ⊎-elim (λ x. absurd (omega (arith, x .hole-in, F .shape .reports-few, c .loop-test .left))) (λ x. x .1) (F .state); kept = F .kept }
 
 pub flip-spec : {M : Type 1} → statement M
 flip-spec =

@@ -10,7 +10,7 @@ search-requires c κs = c .before .before .before .before .before .before .befor
 raise-cols-requires : tie.Need-raise-cols-requires
 raise-cols-requires c κs = let s = c .before .before .before .before .before .before .before .before .before .before .before .before .before .before .before .before .before .before .before .before .before .before .before .before in
     let E = c .before .before .before .before .before .before .before .before .search .ensures in
-    (omega (arith, E .ld, s .pre .shape .lw), λ j h. omega (arith, E .dr, s .pre .P .wm j (omega (arith, s .pre .shape .lw))))
+    (omega (arith, E .labels-long, s .pre .shape .discounts-long), λ j h. omega (arith, E .dr, s .pre .P .discount-in j (omega (arith, s .pre .shape .discounts-long))))
 
 raise-rows-requires : tie.Need-raise-rows-requires
 raise-rows-requires c κs = let s = c .before .before .before .before .before .before .before .before .before .before .before .before .before .before .before .before .before .before .before .before .before .before .before .before .before .before .before .before .before .before .before in
@@ -23,12 +23,12 @@ idx-requires c κs = search needs
 mul-prices : tie.Need-mul-prices
 mul-prices c = let s = c .before .before .before .before .before .before .before .before .before .before .before .before .before .before .before .before .before .before .before .before .before .before .before .before .before .before .before .before .before .before .before .before .before .before .before in
     let E = c .before .before .before .before .before .before .before .before .before .before .before .before .before .before .before .before .before .before .before .search .ensures in
-    omega (arith, c .idx .ensures, s .pre .rr, s .pre .shape .nn, c .before .before .before .raise-rows .ensures .lu)
+    omega (arith, c .idx .ensures, s .pre .track-in, s .pre .shape .tracks-few, c .before .before .before .raise-rows .ensures .prices-long)
 
 slice-read-prices : tie.Need-slice-read-prices
 slice-read-prices c = let s = c .before .before .before .before .before .before .before .before .before .before .before .before .before .before .before .before .before .before .before .before .before .before .before .before .before .before .before .before .before .before .before .before .before .before .before .before in
     let E = c .before .before .before .before .before .before .before .before .before .before .before .before .before .before .before .before .before .before .before .before .search .ensures in
-    omega (arith, c .before .idx .ensures, s .pre .rr, s .pre .shape .nn, c .before .before .before .before .raise-rows .ensures .lu)
+    omega (arith, c .before .idx .ensures, s .pre .track-in, s .pre .shape .tracks-few, c .before .before .before .before .raise-rows .ensures .prices-long)
 
 add-prices : tie.Need-add-prices
 add-prices c = let s = c .before .before .before .before .before .before .before .before .before .before .before .before .before .before .before .before .before .before .before .before .before .before .before .before .before .before .before .before .before .before .before .before .before .before .before .before in
@@ -38,12 +38,12 @@ add-prices c = let s = c .before .before .before .before .before .before .before
 mul-prices-2 : tie.Need-mul-prices-2
 mul-prices-2 c = let s = c .before .before .before .before .before .before .before .before .before .before .before .before .before .before .before .before .before .before .before .before .before .before .before .before .before .before .before .before .before .before .before .before .before .before .before .before in
     let E = c .before .before .before .before .before .before .before .before .before .before .before .before .before .before .before .before .before .before .before .before .search .ensures in
-    omega (arith, c .before .idx .ensures, s .pre .rr, s .pre .shape .nn, c .before .before .before .before .raise-rows .ensures .lu)
+    omega (arith, c .before .idx .ensures, s .pre .track-in, s .pre .shape .tracks-few, c .before .before .before .before .raise-rows .ensures .prices-long)
 
 slice-write-prices : tie.Need-slice-write-prices
 slice-write-prices c = let s = c .before .before .before .before .before .before .before .before .before .before .before .before .before .before .before .before .before .before .before .before .before .before .before .before .before .before .before .before .before .before .before .before .before .before .before .before in
     let E = c .before .before .before .before .before .before .before .before .before .before .before .before .before .before .before .before .before .before .before .before .search .ensures in
-    omega (arith, c .before .idx .ensures, s .pre .rr, s .pre .shape .nn, c .before .before .before .before .raise-rows .ensures .lu)
+    omega (arith, c .before .idx .ensures, s .pre .track-in, s .pre .shape .tracks-few, c .before .before .before .before .raise-rows .ensures .prices-long)
 
 finish-requires : tie.Need-finish-requires
 finish-requires c κs = let s = c .before .before .before .before .before .before .before .before .before .before .before .before .before .before .before .before .before .before .before .before .before .before .before .before .before .before .before .before .before .before .before .before .before .before .before .before .before .before .before .before .before .before in

@@ -9,10 +9,10 @@ use Rattle.queue.proofs.first_turns.Statement.{statement}
 use Rattle.queue.proofs.first_turns.Tie as tie
 
 abbrev Inv-loop : tie.InvT-loop
-Inv-loop sheet reports pairing₀ owner₀ prices₀ discounts₀ dist₀ par₀ shut₀ k₀ pairing owner prices discounts dist par shut k = Good sheet reports (length prices₀) pairing owner prices discounts × (Rooms reports dist par shut × (k ≤ length prices₀))
+Inv-loop sheet reports pairing₀ owner₀ prices₀ discounts₀ labels₀ parents₀ closings₀ k₀ pairing owner prices discounts labels parents closings k = Good sheet reports (length prices₀) pairing owner prices discounts × (Rooms reports labels parents closings × (k ≤ length prices₀))
 
 abbrev μ-loop : tie.MeasureT-loop
-μ-loop sheet reports pairing₀ owner₀ prices₀ discounts₀ dist₀ par₀ shut₀ k₀ pairing owner prices discounts dist par shut k = length prices₀ - k
+μ-loop sheet reports pairing₀ owner₀ prices₀ discounts₀ labels₀ parents₀ closings₀ k₀ pairing owner prices discounts labels parents closings k = length prices₀ - k
 
 loop-holds : tie.Need-loop-holds Inv-loop μ-loop
 loop-holds c = (c .before .before .before .before .before .before .before .before .pre .0, (c .before .before .before .before .before .before .before .before .pre .1, search needs))
@@ -20,7 +20,7 @@ loop-holds c = (c .before .before .before .before .before .before .before .befor
 next-turn-requires : tie.Need-next-turn-requires Inv-loop μ-loop
 next-turn-requires c κs =
     let G = c .before .before .before .loop .inv .0 in
-    (omega (arith, G .shape .lp, G .shape .lu), (omega (arith, G .shape .lu, G .shape .nn), λ k h. G .P .um k (omega (arith, G .shape .lu))))
+    (omega (arith, G .shape .pairing-long, G .shape .prices-long), (omega (arith, G .shape .prices-long, G .shape .tracks-few), λ k h. G .P .price-in k (omega (arith, G .shape .prices-long))))
 
 same-length : tie.Need-same-length Inv-loop μ-loop
 same-length c = search needs
@@ -55,15 +55,15 @@ insert-requires c κs =
     waits _ _ _ _ _ _ _ _ _ _ (good-len _ _ _ _ _ _ _ (c .before .before .before .before .before .before .before .before .before .before .before .before .loop .inv .0)) (c .before .before .before .before .before .before .before .before .before .before .before .before .loop .inv .1 .0) (t .0) (t .1)
 
 next-round-requires : tie.Need-next-round-requires Inv-loop μ-loop
-next-round-requires c κs = omega (arith, c .before .before .before .before .before .before .before .before .before .before .before .before .before .before .before .before .before .before .before .before .before .before .before .before .before .before .before .loop .inv .0 .shape .lu, c .before .before .before .before .before .before .before .before .before .before .before .before .before .before .insert .ensures .0 .good .shape .lu, c .before .before .before .before .before .before .before .before .before .before .before .before .before .before .before .before .before .before .before .before .before .before .before .before .before .before .loop-test .taken)
+next-round-requires c κs = omega (arith, c .before .before .before .before .before .before .before .before .before .before .before .before .before .before .before .before .before .before .before .before .before .before .before .before .before .before .before .loop .inv .0 .shape .prices-long, c .before .before .before .before .before .before .before .before .before .before .before .before .before .before .insert .ensures .0 .good .shape .prices-long, c .before .before .before .before .before .before .before .before .before .before .before .before .before .before .before .before .before .before .before .before .before .before .before .before .before .before .loop-test .taken)
 
 loop-less : tie.Need-loop-less Inv-loop μ-loop
-loop-less c = omega (arith, c .next-round .ensures .0, c .before .before .before .before .before .before .before .before .before .before .before .before .before .before .before .before .before .before .before .before .before .before .before .before .before .before .before .before .loop .inv .0 .shape .lu, c .before .before .before .before .before .before .before .before .before .before .before .before .before .before .before .before .before .before .before .before .before .before .before .before .before .before .before .loop-test .taken)
+loop-less c = omega (arith, c .next-round .ensures .0, c .before .before .before .before .before .before .before .before .before .before .before .before .before .before .before .before .before .before .before .before .before .before .before .before .before .before .before .before .loop .inv .0 .shape .prices-long, c .before .before .before .before .before .before .before .before .before .before .before .before .before .before .before .before .before .before .before .before .before .before .before .before .before .before .before .loop-test .taken)
 
 loop-again : tie.Need-loop-again Inv-loop μ-loop
 loop-again c =
     let G = c .before .before .before .before .before .before .before .before .before .before .before .before .before .before .before .before .before .before .before .before .before .before .before .before .before .before .before .before .loop .inv .0 in
-    (good-at _ _ _ _ _ _ _ _ (G .shape .lu) (c .before .before .before .before .before .before .before .before .before .before .before .before .before .before .before .insert .ensures .0 .good), (record { ld = search needs; lpar = omega (arith, c .before .before .before .before .par .given, c .before .before .before .before .before .before .before .before .before .before .before .before .before .before .before .before .before .before .before .before .before .before .before .before .before .before .before .before .loop .inv .1 .0 .lpar); ls = omega (arith, c .before .before .shut .given, c .before .before .before .before .before .before .before .before .before .before .before .before .before .before .before .before .before .before .before .before .before .before .before .before .before .before .before .before .loop .inv .1 .0 .ls) }, omega (arith, c .next-round .ensures .1, G .shape .lu, c .before .before .before .before .before .before .before .before .before .before .before .before .before .before .before .insert .ensures .0 .good .shape .lu)))
+    (good-at _ _ _ _ _ _ _ _ (G .shape .prices-long) (c .before .before .before .before .before .before .before .before .before .before .before .before .before .before .before .insert .ensures .0 .good), (record { labels-long = search needs; parents-long = omega (arith, c .before .before .before .before .parents .given, c .before .before .before .before .before .before .before .before .before .before .before .before .before .before .before .before .before .before .before .before .before .before .before .before .before .before .before .before .loop .inv .1 .0 .parents-long); closings-long = omega (arith, c .before .before .closings .given, c .before .before .before .before .before .before .before .before .before .before .before .before .before .before .before .before .before .before .before .before .before .before .before .before .before .before .before .before .loop .inv .1 .0 .closings-long) }, omega (arith, c .next-round .ensures .1, G .shape .prices-long, c .before .before .before .before .before .before .before .before .before .before .before .before .before .before .before .insert .ensures .0 .good .shape .prices-long)))
 
 same-length-8 : tie.Need-same-length-8 Inv-loop μ-loop
 same-length-8 c = search needs

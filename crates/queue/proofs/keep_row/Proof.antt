@@ -7,10 +7,10 @@ use Rattle.queue.proofs.keep_row.Statement.{statement}
 use Rattle.queue.proofs.keep_row.Tie as tie
 
 mul-if1 : tie.Need-mul-if1
-mul-if1 c = omega (arith, c .before .before .before .before .before .before .pre .0 .shape .lp, c .before .before .before .before .before .before .pre .0 .shape .nn)
+mul-if1 c = omega (arith, c .before .before .before .before .before .before .pre .0 .shape .pairing-long, c .before .before .before .before .before .before .pre .0 .shape .tracks-few)
 
 shared-slice-read-if1 : tie.Need-shared-slice-read-if1
-shared-slice-read-if1 c = omega (arith, c .before .before .before .before .before .before .before .pre .0 .shape .lp)
+shared-slice-read-if1 c = omega (arith, c .before .before .before .before .before .before .before .pre .0 .shape .pairing-long)
 
 returns : tie.Need-returns
 returns c = kept-none _ _ _ _ _ _ _ _ (c .before .before .before .before .before .before .before .before .pre .0) (c .before .before .before .before .before .before .before .before .pre .1 .0) (c .before .before .before .before .before .before .before .before .pre .1 .1) (c .if1 .taken)
@@ -22,13 +22,13 @@ shared-slice-read-price : tie.Need-shared-slice-read-price
 shared-slice-read-price c = search needs
 
 mul-a : tie.Need-mul-a
-mul-a c = omega (arith, c .before .before .before .before .before .before .before .before .before .pre .0 .shape .lC, row-in (c .before .before .before .before .before .before .before .before .before .args .track) (length (c .before .before .before .before .before .before .before .before .before .args .prices .now)) (c .before .before .before .before .before .before .before .before .before .args .reports) (length (c .before .before .before .before .before .before .before .before .before .args .sheet .now)) (omega (arith, c .before .before .before .before .before .before .before .before .before .pre .1 .0)) (omega (arith, c .before .before .before .before .before .before .before .before .before .pre .0 .shape .lC)))
+mul-a c = omega (arith, c .before .before .before .before .before .before .before .before .before .pre .0 .shape .cells-long, row-in (c .before .before .before .before .before .before .before .before .before .args .track) (length (c .before .before .before .before .before .before .before .before .before .args .prices .now)) (c .before .before .before .before .before .before .before .before .before .args .reports) (length (c .before .before .before .before .before .before .before .before .before .args .sheet .now)) (omega (arith, c .before .before .before .before .before .before .before .before .before .pre .1 .0)) (omega (arith, c .before .before .before .before .before .before .before .before .before .pre .0 .shape .cells-long)))
 
 add-e : tie.Need-add-e
-add-e c = omega (arith, c .before .before .before .before .before .before .before .before .before .pre .0 .shape .lC, row-in (c .before .before .before .before .before .before .before .before .before .args .track) (length (c .before .before .before .before .before .before .before .before .before .args .prices .now)) (c .before .before .before .before .before .before .before .before .before .args .reports) (length (c .before .before .before .before .before .before .before .before .before .args .sheet .now)) (omega (arith, c .before .before .before .before .before .before .before .before .before .pre .1 .0)) (omega (arith, c .before .before .before .before .before .before .before .before .before .pre .0 .shape .lC)))
+add-e c = omega (arith, c .before .before .before .before .before .before .before .before .before .pre .0 .shape .cells-long, row-in (c .before .before .before .before .before .before .before .before .before .args .track) (length (c .before .before .before .before .before .before .before .before .before .args .prices .now)) (c .before .before .before .before .before .before .before .before .before .args .reports) (length (c .before .before .before .before .before .before .before .before .before .args .sheet .now)) (omega (arith, c .before .before .before .before .before .before .before .before .before .pre .1 .0)) (omega (arith, c .before .before .before .before .before .before .before .before .before .pre .0 .shape .cells-long)))
 
 mul-keep : tie.Need-mul-keep
-mul-keep c = omega (arith, c .before .before .before .before .before .before .before .before .before .pre .0 .shape .lC, row-in (c .before .before .before .before .before .before .before .before .before .args .track) (length (c .before .before .before .before .before .before .before .before .before .args .prices .now)) (c .before .before .before .before .before .before .before .before .before .args .reports) (length (c .before .before .before .before .before .before .before .before .before .args .sheet .now)) (omega (arith, c .before .before .before .before .before .before .before .before .before .pre .1 .0)) (omega (arith, c .before .before .before .before .before .before .before .before .before .pre .0 .shape .lC)))
+mul-keep c = omega (arith, c .before .before .before .before .before .before .before .before .before .pre .0 .shape .cells-long, row-in (c .before .before .before .before .before .before .before .before .before .args .track) (length (c .before .before .before .before .before .before .before .before .before .args .prices .now)) (c .before .before .before .before .before .before .before .before .before .args .reports) (length (c .before .before .before .before .before .before .before .before .before .args .sheet .now)) (omega (arith, c .before .before .before .before .before .before .before .before .before .pre .1 .0)) (omega (arith, c .before .before .before .before .before .before .before .before .before .pre .0 .shape .cells-long)))
 
 sub-keep : tie.Need-sub-keep
 sub-keep c = search needs
@@ -37,7 +37,7 @@ part-keep-start : tie.Need-part-keep-start
 part-keep-start c = search needs
 
 part-keep-end : tie.Need-part-keep-end
-part-keep-end c = omega (arith, c .before .before .before .before .before .before .before .before .before .pre .0 .shape .lC, row-in (c .before .before .before .before .before .before .before .before .before .args .track) (length (c .before .before .before .before .before .before .before .before .before .args .prices .now)) (c .before .before .before .before .before .before .before .before .before .args .reports) (length (c .before .before .before .before .before .before .before .before .before .args .sheet .now)) (omega (arith, c .before .before .before .before .before .before .before .before .before .pre .1 .0)) (omega (arith, c .before .before .before .before .before .before .before .before .before .pre .0 .shape .lC)))
+part-keep-end c = omega (arith, c .before .before .before .before .before .before .before .before .before .pre .0 .shape .cells-long, row-in (c .before .before .before .before .before .before .before .before .before .args .track) (length (c .before .before .before .before .before .before .before .before .before .args .prices .now)) (c .before .before .before .before .before .before .before .before .before .args .reports) (length (c .before .before .before .before .before .before .before .before .before .args .sheet .now)) (omega (arith, c .before .before .before .before .before .before .before .before .before .pre .1 .0)) (omega (arith, c .before .before .before .before .before .before .before .before .before .pre .0 .shape .cells-long)))
 
 keep-requires : tie.Need-keep-requires
 keep-requires c κs = row-slack _ _ _ _ _ _ _ _ (c .before .before .before .before .before .before .before .before .before .before .before .pre .0) (c .before .before .before .before .before .before .before .before .before .before .before .pre .1 .0) (c .before .before .before .before .before .before .before .before .before .before .before .pre .1 .1)

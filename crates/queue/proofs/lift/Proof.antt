@@ -28,12 +28,12 @@ returns c = search needs
 raise-paired-requires : tie.Need-raise-paired-requires
 raise-paired-requires c κs =
     let G = c .before .before .before .before .before .before .before .before .before .before .before .before .before .pre .good in
-    (omega (arith, G .shape .lo, G .shape .lw), λ k h. omega (arith, G .P .wm k (omega (arith, G .shape .lw)), c .before .before .lesser .ensures .1 .0))
+    (omega (arith, G .shape .owner-long, G .shape .discounts-long), λ k h. omega (arith, G .P .discount-in k (omega (arith, G .shape .discounts-long)), c .before .before .lesser .ensures .1 .0))
 
 raise-paired-requires-2 : tie.Need-raise-paired-requires-2
 raise-paired-requires-2 c κs =
     let G = c .before .before .before .before .before .before .before .before .before .before .before .before .before .before .before .before .before .pre .good in
-    (G .shape .lp, λ k h. omega (arith, G .P .um k h, c .before .before .before .before .before .before .lesser .ensures .1 .0))
+    (G .shape .pairing-long, λ k h. omega (arith, G .P .price-in k h, c .before .before .before .before .before .before .lesser .ensures .1 .0))
 
 spend-requires : tie.Need-spend-requires
 spend-requires c κs = search needs
@@ -50,7 +50,7 @@ same-length-5 c = search needs
 returns-2 : tie.Need-returns-2
 returns-2 c =
     let L = c .before .before .before .before .before .before .before .before .before .before .before .before .before .before .before .before .before .before .before .before .before .before .before .before .pre in
-    lifted _ _ _ _ _ _ _ _ L _ (λ j g z. omega (arith, c .before .before .before .before .before .before .before .before .before .before .before .before .before .lesser .ensures .0, c .before .before .before .before .before .before .before .before .before .before .before .before .before .before .before .before .least-slack .ensures .1 j (omega (arith, L .slacks .ls)) z)) (λ i h. omega (arith, c .before .before .before .before .before .before .before .before .before .before .before .before .before .lesser .ensures .1 .0, c .before .before .before .before .before .before .before .before .before .before .before .before .before .before .highest .ensures .1 i h, c .before .before .before .before .before .before .before .before .before .before .before .before .before .before .highest .ensures .0)) _ _ _ (c .before .before .before .before .before .before .before .before .before .before .raise-paired .ensures) (c .before .before .before .before .before .before .raise-paired2 .ensures) (c .before .before .spend .ensures)
+    lifted _ _ _ _ _ _ _ _ L _ (λ j g z. omega (arith, c .before .before .before .before .before .before .before .before .before .before .before .before .before .lesser .ensures .0, c .before .before .before .before .before .before .before .before .before .before .before .before .before .before .before .before .least-slack .ensures .1 j (omega (arith, L .slacks .slack-long)) z)) (λ i h. omega (arith, c .before .before .before .before .before .before .before .before .before .before .before .before .before .lesser .ensures .1 .0, c .before .before .before .before .before .before .before .before .before .before .before .before .before .before .highest .ensures .1 i h, c .before .before .before .before .before .before .before .before .before .before .before .before .before .before .highest .ensures .0)) _ _ _ (c .before .before .before .before .before .before .before .before .before .before .raise-paired .ensures) (c .before .before .before .before .before .before .raise-paired2 .ensures) (c .before .before .spend .ensures)
 
 pub lift-spec : {M : Type 1} → statement M
 lift-spec =

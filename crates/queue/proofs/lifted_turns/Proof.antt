@@ -9,10 +9,10 @@ use Rattle.queue.proofs.lifted_turns.Statement.{statement}
 use Rattle.queue.proofs.lifted_turns.Tie as tie
 
 abbrev Inv-loop : tie.InvT-loop
-Inv-loop sheet reports pairing₀ owner₀ prices₀ discounts₀ dist₀ par₀ shut₀ slack₀ k₀ pairing owner prices discounts dist par shut slack k = Lifting sheet reports (length prices₀) pairing owner prices discounts slack × (Rooms reports dist par shut × (k ≤ length prices₀))
+Inv-loop sheet reports pairing₀ owner₀ prices₀ discounts₀ labels₀ parents₀ closings₀ slack₀ k₀ pairing owner prices discounts labels parents closings slack k = Lifting sheet reports (length prices₀) pairing owner prices discounts slack × (Rooms reports labels parents closings × (k ≤ length prices₀))
 
 abbrev μ-loop : tie.MeasureT-loop
-μ-loop sheet reports pairing₀ owner₀ prices₀ discounts₀ dist₀ par₀ shut₀ slack₀ k₀ pairing owner prices discounts dist par shut slack k = length prices₀ - k
+μ-loop sheet reports pairing₀ owner₀ prices₀ discounts₀ labels₀ parents₀ closings₀ slack₀ k₀ pairing owner prices discounts labels parents closings slack k = length prices₀ - k
 
 loop-holds : tie.Need-loop-holds Inv-loop μ-loop
 loop-holds c = (c .before .before .before .before .before .before .before .before .before .pre .0, (c .before .before .before .before .before .before .before .before .before .pre .1, search needs))
@@ -20,7 +20,7 @@ loop-holds c = (c .before .before .before .before .before .before .before .befor
 next-turn-requires : tie.Need-next-turn-requires Inv-loop μ-loop
 next-turn-requires c κs =
     let G = c .before .before .before .loop .inv .0 .good in
-    (omega (arith, G .shape .lp, G .shape .lu), (omega (arith, G .shape .lu, G .shape .nn), λ k h. G .P .um k (omega (arith, G .shape .lu))))
+    (omega (arith, G .shape .pairing-long, G .shape .prices-long), (omega (arith, G .shape .prices-long, G .shape .tracks-few), λ k h. G .P .price-in k (omega (arith, G .shape .prices-long))))
 
 same-length : tie.Need-same-length Inv-loop μ-loop
 same-length c = search needs
@@ -55,7 +55,7 @@ sub-lifted-turn c = search needs
 lifted-turn-requires : tie.Need-lifted-turn-requires Inv-loop μ-loop
 lifted-turn-requires c κs =
     let L = c .before .before .before .before .before .before .before .before .before .before .before .before .before .loop .inv .0 in
-    (lifting-at _ _ _ _ _ _ _ _ _ (sym (L .good .shape .lu)) L, (c .before .before .before .before .before .before .before .before .before .before .before .before .before .loop .inv .1 .0, c .before .before .before .before .before .before .before .before .before .next-turn .ensures (omega (arith, c .before .before .before .before .before .before .before .before .if1 .left))))
+    (lifting-at _ _ _ _ _ _ _ _ _ (sym (L .good .shape .prices-long)) L, (c .before .before .before .before .before .before .before .before .before .before .before .before .before .loop .inv .1 .0, c .before .before .before .before .before .before .before .before .before .next-turn .ensures (omega (arith, c .before .before .before .before .before .before .before .before .if1 .left))))
 
 add-k : tie.Need-add-k Inv-loop μ-loop
 add-k c = search needs
@@ -66,7 +66,7 @@ loop-less c = search needs
 loop-again : tie.Need-loop-again Inv-loop μ-loop
 loop-again c =
     let G = c .before .before .before .before .before .before .before .before .before .before .before .before .before .before .before .before .before .before .before .before .before .before .before .before .before .before .before .before .before .before .loop .inv .0 .good in
-    (lifting-at _ _ _ _ _ _ _ _ _ (G .shape .lu) (c .before .before .before .before .before .before .before .before .before .before .before .before .before .before .before .before .lifted-turn .ensures), (record { ld = search needs; lpar = search needs; ls = search needs }, omega (arith, G .shape .lu, c .before .before .before .before .before .before .before .before .before .before .before .before .before .before .before .before .before .before .before .before .before .before .before .before .before .before .before .before .before .loop-test .taken)))
+    (lifting-at _ _ _ _ _ _ _ _ _ (G .shape .prices-long) (c .before .before .before .before .before .before .before .before .before .before .before .before .before .before .before .before .lifted-turn .ensures), (record { labels-long = search needs; parents-long = search needs; closings-long = search needs }, omega (arith, G .shape .prices-long, c .before .before .before .before .before .before .before .before .before .before .before .before .before .before .before .before .before .before .before .before .before .before .before .before .before .before .before .before .before .loop-test .taken)))
 
 same-length-9 : tie.Need-same-length-9 Inv-loop μ-loop
 same-length-9 c = search needs
