@@ -179,7 +179,7 @@ module _ (cells : List ℕ) (m track h : ℕ) (pairing owner prices discounts : 
   ousted x j y ex ej ey l = rw (ey, ej, ex) (won (rw (ey, ej) at l))
 
 -- a visit where nothing is to do, and where the track is to be inserted
-module _ (cells : List ℕ) (m track : ℕ) (pairing owner prices discounts labels parents closings : List ℕ) (Vs : Visit cells m track pairing owner prices discounts labels parents closings) (x : ℕ) (ex : x ≡ track) where
+module _ (cells : List ℕ) (m track : ℕ) (pairing owner prices discounts labels via closings : List ℕ) (Vs : Visit cells m track pairing owner prices discounts labels via closings) (x : ℕ) (ex : x ≡ track) where
   same : Done m pairing prices track → Inserted cells m (length prices) track pairing prices pairing owner prices discounts
   same d = record { good = Vs .good; done = λ i h a. a; done-r = d }
 
@@ -189,7 +189,7 @@ module _ (cells : List ℕ) (m track : ℕ) (pairing owner prices discounts labe
   pub visit-left : leftOut ≤ at prices x → Inserted cells m (length prices) track pairing prices pairing owner prices discounts
   visit-left l = same (inr (omega (arith, ap (at prices) ex, Vs .good .P .price-in track (Vs .track-in))))
 
-  pub visit-ready : at pairing x ≡ none → Searchable cells m track pairing owner prices discounts labels parents closings
+  pub visit-ready : at pairing x ≡ none → Searchable cells m track pairing owner prices discounts labels via closings
   visit-ready z = record {
     shape = Vs .good .shape;
     P = Vs .good .P;
@@ -197,7 +197,7 @@ module _ (cells : List ℕ) (m track : ℕ) (pairing owner prices discounts labe
     track-in = Vs .track-in;
     rp = sym (ap (at pairing) ex) ∙ z;
     labels-long = Vs .labels-long;
-    parents-long = Vs .parents-long;
+    via-long = Vs .via-long;
     closings-long = Vs .closings-long;
   }
 

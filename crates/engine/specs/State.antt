@@ -29,16 +29,16 @@ pub record Claimed (cells : List ℕ) (m n track : ℕ) (pairing pairing' owner'
   pub good : Good cells m n pairing' owner' prices' discounts
   pub others : (i : ℕ) → (i ≡ track → ⊥) → at pairing i ≡ none → at pairing' i ≡ none
 
-pub record WorkRoom (cells : List ℕ) (m n : ℕ) (pairing owner prices discounts labels parents closings slack : List ℕ) : Type 0 where
+pub record WorkRoom (cells : List ℕ) (m n : ℕ) (pairing owner prices discounts labels via closings slack : List ℕ) : Type 0 where
   pub shape : Shape cells m n pairing owner prices discounts
-  pub rooms : Rooms m labels parents closings
+  pub rooms : Rooms m labels via closings
   pub slack-long : length slack ≡ m
 
-pub record Visit (cells : List ℕ) (m track : ℕ) (pairing owner prices discounts labels parents closings : List ℕ) : Type 0 where
+pub record Visit (cells : List ℕ) (m track : ℕ) (pairing owner prices discounts labels via closings : List ℕ) : Type 0 where
   pub good : Good cells m (length prices) pairing owner prices discounts
   pub track-in : track < length prices
   pub labels-long : length labels ≡ m
-  pub parents-long : length parents ≡ m
+  pub via-long : length via ≡ m
   pub closings-long : length closings ≡ m
 
 -- the whole answer: fair prices, tight pairs, free reports at 0, and each track paired or at the full price

@@ -124,10 +124,10 @@ fn visit(
     prices: &mut [u32],
     discounts: &mut [u32],
     labels: &mut [u32],
-    parents: &mut [u32],
+    via: &mut [u32],
     closings: &mut [u32],
 )
-    requires { ⌜ Visit (now sheet) reports track (now pairing) (now owner) (now prices) (now discounts) (now labels) (now parents) (now closings) ⌝ }
+    requires { ⌜ Visit (now sheet) reports track (now pairing) (now owner) (now prices) (now discounts) (now labels) (now via) (now closings) ⌝ }
     ensures { λ _. ⌜ Inserted (now (sheet .entry)) reports (length (now (prices .entry))) track (now (pairing .entry)) (now (prices .entry)) (now (pairing .exit)) (now (owner .exit)) (now (prices .exit)) (now (discounts .exit)) ⌝ }
 {
     let x = idx(track);
@@ -148,7 +148,7 @@ fn visit(
         prices,
         discounts,
         labels,
-        parents,
+        via,
         closings,
     );
 }
@@ -180,11 +180,11 @@ fn match_all(
     prices: &mut [u32],
     discounts: &mut [u32],
     labels: &mut [u32],
-    parents: &mut [u32],
+    via: &mut [u32],
     closings: &mut [u32],
     slack: &mut [u32],
 )
-    requires { ⌜ WorkRoom (now sheet) reports (length (now prices)) (now pairing) (now owner) (now prices) (now discounts) (now labels) (now parents) (now closings) (now slack) ⌝ }
+    requires { ⌜ WorkRoom (now sheet) reports (length (now prices)) (now pairing) (now owner) (now prices) (now discounts) (now labels) (now via) (now closings) (now slack) ⌝ }
     ensures { λ _. ⌜ Good (now (sheet .entry)) reports (length (now (prices .entry))) (now (pairing .exit)) (now (owner .exit)) (now (prices .exit)) (now (discounts .exit)) ⌝ }
 {
     clear(sheet, reports, pairing, owner, prices, discounts);
@@ -197,7 +197,7 @@ fn match_all(
         prices,
         discounts,
         labels,
-        parents,
+        via,
         closings,
         slack,
     );
@@ -211,11 +211,11 @@ fn assign(
     prices: &mut [u32],
     discounts: &mut [u32],
     labels: &mut [u32],
-    parents: &mut [u32],
+    via: &mut [u32],
     closings: &mut [u32],
     slack: &mut [u32],
 )
-    requires { ⌜ WorkRoom (now sheet) reports (length (now prices)) (now pairing) (now owner) (now prices) (now discounts) (now labels) (now parents) (now closings) (now slack) ⌝ }
+    requires { ⌜ WorkRoom (now sheet) reports (length (now prices)) (now pairing) (now owner) (now prices) (now discounts) (now labels) (now via) (now closings) (now slack) ⌝ }
     ensures { λ _. ⌜ Solved (now (sheet .entry)) reports (length (now (prices .entry))) (now (pairing .exit)) (now (owner .exit)) (now (prices .exit)) (now (discounts .exit)) ⌝ }
 {
     match_all(
@@ -226,7 +226,7 @@ fn assign(
         prices,
         discounts,
         labels,
-        parents,
+        via,
         closings,
         slack,
     );
@@ -242,7 +242,7 @@ fn assign(
             prices,
             discounts,
             labels,
-            parents,
+            via,
             closings,
         );
         track += 1;
@@ -262,7 +262,7 @@ pub fn pair_cells(
 {
     let mut owner = [0u32; WIDEST];
     let mut labels = [0u32; WIDEST];
-    let mut parents = [0u32; WIDEST];
+    let mut via = [0u32; WIDEST];
     let mut closings = [0u32; WIDEST];
     let mut slack = [0u32; WIDEST];
     assign(
@@ -273,7 +273,7 @@ pub fn pair_cells(
         prices,
         discounts,
         &mut labels[..reports],
-        &mut parents[..reports],
+        &mut via[..reports],
         &mut closings[..reports],
         &mut slack[..reports],
     );

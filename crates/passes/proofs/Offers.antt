@@ -11,13 +11,13 @@ use Rattle.laws.proofs.Stores.{le-or-lt}
 use Rattle.passes.specs.Cells.{Step}
 
 -- relax, with the reports below j done
-pub record Going (cells discounts : List ℕ) (d price i : ℕ) (labels parents : List ℕ) (j : ℕ) (labels' parents' : List ℕ) : Type 0 where
+pub record Going (cells discounts : List ℕ) (d price i : ℕ) (labels via : List ℕ) (j : ℕ) (labels' via' : List ℕ) : Type 0 where
   pub in-range : j ≤ length labels
   pub labels-long : length labels' ≡ length labels
-  pub parents-long : length parents' ≡ length labels
-  pub steps : (k : ℕ) → k < j → Step (at cells k) (at discounts k) d price i (at labels k) (at parents k) (at labels' k) (at parents' k)
+  pub via-long : length via' ≡ length labels
+  pub steps : (k : ℕ) → k < j → Step (at cells k) (at discounts k) d price i (at labels k) (at via k) (at labels' k) (at via' k)
   pub rest-d : (k : ℕ) → j ≤ k → at labels' k ≡ at labels k
-  pub rest-p : (k : ℕ) → j ≤ k → at parents' k ≡ at parents k
+  pub rest-p : (k : ℕ) → j ≤ k → at via' k ≡ at via k
 
 module _ (c w d u i od op o l p : ℕ)
     (fair : c < 2 ^ 30 → o + u ≡ d + c + w) (none : 2 ^ 30 ≤ c → 2 ^ 29 ≤ o) (small : od ≤ leftOut)

@@ -26,10 +26,10 @@ pub record Step (cell discount d price i od op nd np : ℕ) : Type 0 where
   pub why : ((nd ≡ od) × (np ≡ op)) ⊎ ((cell < far) × ((nd + price ≡ d + cell + discount) × ((nd < od) × (np ≡ i))))
 
 -- what relax asks of its lists
-pub record Fair (cells discounts labels parents : List ℕ) (d price : ℕ) : Type 0 where
+pub record Fair (cells discounts labels via : List ℕ) (d price : ℕ) : Type 0 where
   pub lc : length cells ≡ length labels
   pub discounts-long : length discounts ≡ length labels
-  pub parents-long : length parents ≡ length labels
+  pub via-long : length via ≡ length labels
   pub cells-good : (k : ℕ) → k < length labels → IsCell (at cells k)
   pub du : d ≤ leftOut
   pub uu : price ≤ leftOut
@@ -37,10 +37,10 @@ pub record Fair (cells discounts labels parents : List ℕ) (d price : ℕ) : Ty
   pub label-in : (k : ℕ) → k < length labels → at labels k ≤ leftOut
   pub ok : (k : ℕ) → k < length labels → at cells k < far → price ≤ at cells k + at discounts k
 
-pub record Relaxed (cells discounts : List ℕ) (d price i : ℕ) (labels parents labels' parents' : List ℕ) : Type 0 where
+pub record Relaxed (cells discounts : List ℕ) (d price i : ℕ) (labels via labels' via' : List ℕ) : Type 0 where
   pub labels-long : length labels' ≡ length labels
-  pub parents-long : length parents' ≡ length labels
-  pub steps : (k : ℕ) → k < length labels → Step (at cells k) (at discounts k) d price i (at labels k) (at parents k) (at labels' k) (at parents' k)
+  pub via-long : length via' ≡ length labels
+  pub steps : (k : ℕ) → k < length labels → Step (at cells k) (at discounts k) d price i (at labels k) (at via k) (at labels' k) (at via' k)
 
 -- labels, and a mark a report: 0 while it is open
 pub record Labels (labels closings : List ℕ) : Type 0 where

@@ -87,18 +87,18 @@ pub fn relax(
     price: u32,
     track: u32,
     labels: &mut [u32],
-    parents: &mut [u32],
+    via: &mut [u32],
 )
-    requires { ⌜ Fair (now cells) (now discounts) (now labels) (now parents) label price ⌝ }
-    ensures { λ r. ⌜ Relaxed (now (cells .entry)) (now (discounts .entry)) label price track (now (labels .entry)) (now (parents .entry)) (now (labels .exit)) (now (parents .exit)) ⌝ }
+    requires { ⌜ Fair (now cells) (now discounts) (now labels) (now via) label price ⌝ }
+    ensures { λ r. ⌜ Relaxed (now (cells .entry)) (now (discounts .entry)) label price track (now (labels .entry)) (now (via .entry)) (now (labels .exit)) (now (via .exit)) ⌝ }
 {
     let mut j: usize = 0;
     while j < labels.len() {
         let nd = offer(cells[j], discounts[j], label, price);
         let od = labels[j];
-        let op = parents[j];
+        let op = via[j];
         labels[j] = low(nd, od);
-        parents[j] = pick(nd, od, track, op);
+        via[j] = pick(nd, od, track, op);
         j += 1;
     }
 }

@@ -25,18 +25,18 @@ unfolding zeros
 zeros-all [] f = refl
 zeros-all (x ∷ xs) f = rw (f zero (omega arith)) (omega (arith, zeros-all xs (λ k h. f (suc k) (omega arith))))
 
-module _ (cells : List ℕ) (m n : ℕ) (pairing owner prices discounts : List ℕ) (track leaving leaver k : ℕ) (labels parents closings : List ℕ)
+module _ (cells : List ℕ) (m n : ℕ) (pairing owner prices discounts : List ℕ) (track leaving leaver k : ℕ) (labels via closings : List ℕ)
     (P : Prices cells m n prices discounts)
-    (T : Tree cells m n pairing owner prices discounts track leaving leaver k labels parents closings)
+    (T : Tree cells m n pairing owner prices discounts track leaving leaver k labels via closings)
     (j : ℕ) (jm : j < m) (jo : at closings j ≡ 0) (jl : at labels j < leaving)
     (near : (e : ℕ) → e < m → at closings e ≡ 0 → at labels j ≤ at labels e)
     (own : Own cells m n pairing prices discounts j (at owner j))
     (lv' lrow' : ℕ)
     (lva : lv' ≤ leaving) (lvb : lv' + at prices (at owner j) ≤ at labels j + leftOut) (lvd : at labels j ≤ lv')
     (lvw : ((lv' ≡ leaving) × (lrow' ≡ leaver)) ⊎ ((lv' + at prices (at owner j) ≡ at labels j + leftOut) × (lrow' ≡ at owner j)))
-    (labels' parents' : List ℕ)
-    (ld' : length labels' ≡ m) (lp' : length parents' ≡ m)
-    (steps : (e : ℕ) → e < m → Step (cell cells m (at owner j) e) (at discounts e) (at labels j) (at prices (at owner j)) (at owner j) (at labels e) (at parents e) (at labels' e) (at parents' e)) where
+    (labels' via' : List ℕ)
+    (ld' : length labels' ≡ m) (lp' : length via' ≡ m)
+    (steps : (e : ℕ) → e < m → Step (cell cells m (at owner j) e) (at discounts e) (at labels j) (at prices (at owner j)) (at owner j) (at labels e) (at via e) (at labels' e) (at via' e)) where
   abbrev o : ℕ
   o = at owner j
 
@@ -54,7 +54,7 @@ module _ (cells : List ℕ) (m n : ℕ) (pairing owner prices discounts : List �
   offered e h = ⊎-elim (λ s. inl (s .0)) (λ s. inr (omega (arith, s .1 .0, P .fair o e (own .there) h (s .0)))) (steps e h .why)
 
   -- a label at or below j's stays, with its parent
-  stays : (e : ℕ) → e < m → at labels e ≤ at labels j → (at labels' e ≡ at labels e) × (at parents' e ≡ at parents e)
+  stays : (e : ℕ) → e < m → at labels e ≤ at labels j → (at labels' e ≡ at labels e) × (at via' e ≡ at via e)
   stays e h l = ⊎-elim (λ s. s) (λ s. absurd (omega (arith, s .1 .0, s .1 .1 .0, P .fair o e (own .there) h (s .0)))) (steps e h .why)
 
   -- what is closed now is j or was closed
@@ -175,16 +175,16 @@ module _ (cells : List ℕ) (m n : ℕ) (pairing owner prices discounts : List �
     );
   }
 
-  links' : (c : ℕ) → c < m → at labels' c < leftOut → Link cells m n pairing prices discounts track labels' closings' c (at parents' c)
+  links' : (c : ℕ) → c < m → at labels' c < leftOut → Link cells m n pairing prices discounts track labels' closings' c (at via' c)
   links' c h l =
-      ⊎-elim (λ s. rw (s .1) (link-old c h (s .0) (at parents c) (T .links c h (omega (arith, s .0)))))
+      ⊎-elim (λ s. rw (s .1) (link-old c h (s .0) (at via c) (T .links c h (omega (arith, s .0)))))
       (λ s. rw (s .1 .1 .1) (link-new c h (s .0) (s .1 .0) (s .1 .1 .0)))
       (steps c h .why)
 
-  pub advance : Tree cells m n pairing owner prices discounts track lv' lrow' (k + 1) labels' parents' closings'
+  pub advance : Tree cells m n pairing owner prices discounts track lv' lrow' (k + 1) labels' via' closings'
   advance = record {
     labels-long = ld';
-    parents-long = lp';
+    via-long = lp';
     closings-long = simp length-set (T .closings-long);
     cap = λ e h. omega (arith, steps e h .less, T .cap e h);
     two = two';

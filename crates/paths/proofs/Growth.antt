@@ -32,7 +32,7 @@ module _ {cells : List ℕ} {m track : ℕ} {pairing owner prices discounts d0 p
     cells-good = R .shape .cells-good;
     discounts-long = R .shape .discounts-long;
     labels-long = l;
-    parents-long = R .parents-long;
+    via-long = R .via-long;
     label-in = omega arith;
     P = R .P;
     cap = λ j h. omega (arith, f j h);
@@ -44,7 +44,7 @@ module _ {cells : List ℕ} {m track : ℕ} {pairing owner prices discounts d0 p
       → Tree cells m (length prices) pairing owner prices discounts track leaving track 0 d2 p2 s1
   plant leaving d1 d2 p2 s1 e f l g S = record {
     labels-long = S .labels-long;
-    parents-long = S .parents-long;
+    via-long = S .via-long;
     closings-long = l;
     cap = λ j h. omega (arith, S .steps j h .less, f j h);
     two = λ j h. inl (g j h);
@@ -59,7 +59,7 @@ module _ {cells : List ℕ} {m track : ℕ} {pairing owner prices discounts d0 p
     count = omega (arith, zeros-all s1 (λ k h. g k (omega arith)));
   }
 
-  module _ {leaving leaver k : ℕ} {labels parents closings : List ℕ} (T : Tree cells m (length prices) pairing owner prices discounts track leaving leaver k labels parents closings) where
+  module _ {leaving leaver k : ℕ} {labels via closings : List ℕ} (T : Tree cells m (length prices) pairing owner prices discounts track leaving leaver k labels via closings) where
     pub few : k ≤ m
     few = omega (arith, T .count)
 
@@ -97,15 +97,15 @@ module _ {cells : List ℕ} {m track : ℕ} {pairing owner prices discounts d0 p
         pub turn : (at owner j ≡ none → ⊥) → (x lv' lrow' : ℕ) → x + at prices (at owner j) ≡ at labels j + leftOut
             → (lv' ≤ x) × ((lv' ≤ leaving) × ((x < leaving → lv' ≡ x) × (leaving ≤ x → lv' ≡ leaving)))
             → (x < leaving → lrow' ≡ at owner j) × (leaving ≤ x → lrow' ≡ leaver)
-            → (labels' parents' : List ℕ) → Scanned cells m discounts (at labels j) (at prices (at owner j)) (at owner j) labels parents labels' parents'
-            → Tree cells m (length prices) pairing owner prices discounts track lv' lrow' (k + 1) labels' parents' (set closings j (far + k))
-        turn ne x lv' lrow' xe L K labels' parents' S =
+            → (labels' via' : List ℕ) → Scanned cells m discounts (at labels j) (at prices (at owner j)) (at owner j) labels via labels' via'
+            → Tree cells m (length prices) pairing owner prices discounts track lv' lrow' (k + 1) labels' via' (set closings j (far + k))
+        turn ne x lv' lrow' xe L K labels' via' S =
             let um = R .P .price-in (at owner j) (pop-own ne .there) in
-            advance cells m (length prices) pairing owner prices discounts track leaving leaver k labels parents closings (R .P) T j jm pop-open pop-low pop-near (pop-own ne)
+            advance cells m (length prices) pairing owner prices discounts track leaving leaver k labels via closings (R .P) T j jm pop-open pop-low pop-near (pop-own ne)
             lv' lrow' (L .1 .0) (omega (arith, L .0))
             (⊎-elim (λ g. omega (arith, L .1 .1 .1 g, pop-low)) (λ g. omega (arith, L .1 .1 .0 g)) (le-or-lt leaving x))
             (⊎-elim (λ g. inl (L .1 .1 .1 g, K .1 g)) (λ g. inr (omega (arith, L .1 .1 .0 g), K .0 g)) (le-or-lt leaving x))
-            labels' parents' (S .labels-long) (S .parents-long) (S .steps)
+            labels' via' (S .labels-long) (S .via-long) (S .steps)
 
         abbrev closings' : List ℕ
         closings' = set closings j (far + k)
@@ -137,7 +137,7 @@ module _ {cells : List ℕ} {m track : ℕ} {pairing owner prices discounts d0 p
                 (le-or-lt lo e);
           }
 
-          pub fit-row : (at owner j ≡ none → ⊥) → Scannable cells m r (at owner j) (at labels j) prices discounts labels parents
+          pub fit-row : (at owner j ≡ none → ⊥) → Scannable cells m r (at owner j) (at labels j) prices discounts labels via
           fit-row ne = record {
             first-in = few-r;
             before = λ e h. low-now e (omega (arith, few-r)) (front-more .closed e h);
@@ -146,7 +146,7 @@ module _ {cells : List ℕ} {m track : ℕ} {pairing owner prices discounts d0 p
             cells-good = R .shape .cells-good;
             discounts-long = R .shape .discounts-long;
             labels-long = T .labels-long;
-            parents-long = T .parents-long;
+            via-long = T .via-long;
             label-in = T .cap j jm;
             P = R .P;
             cap = T .cap;
@@ -175,11 +175,11 @@ module _ {cells : List ℕ} {m track : ℕ} {pairing owner prices discounts d0 p
               (x .how);
         }
 
-        pub ended-col : at owner j ≡ none → (leaver′ : ℕ) → Ended cells m (length prices) pairing owner prices discounts track (at labels j) j leaver′ labels parents closings'
+        pub ended-col : at owner j ≡ none → (leaver′ : ℕ) → Ended cells m (length prices) pairing owner prices discounts track (at labels j) j leaver′ labels via closings'
         ended-col free leaver′ = record {
           labels-long = T .labels-long;
           cap = T .cap;
-          parents-long = T .parents-long;
+          via-long = T .via-long;
           closings-long = simp length-set (T .closings-long);
           root = T .root;
           dr = omega (arith, T .leaving-in, pop-low);
@@ -192,16 +192,16 @@ module _ {cells : List ℕ} {m track : ℕ} {pairing owner prices discounts d0 p
               })
               (T .two c h);
           low = low-now;
-          links = λ c h s. link-close c h (at parents c) (T .links c h
+          links = λ c h s. link-close c h (at via c) (T .links c h
               (⊎-elim (λ d. omega (arith, ap (at labels) d, pop-low, T .leaving-in)) (λ d. omega (arith, T .sorted c j h jm (omega (arith, closings-o c d)) pop-open, pop-low, T .leaving-in)) (same-or c j)));
           end = inl (jm, (free, (omega (arith, closings-j), refl)));
         }
 
-      pub ended-leave : m ≤ j → Ended cells m (length prices) pairing owner prices discounts track leaving none leaver labels parents closings
+      pub ended-leave : m ≤ j → Ended cells m (length prices) pairing owner prices discounts track leaving none leaver labels via closings
       ended-leave out = record {
         labels-long = T .labels-long;
         cap = T .cap;
-        parents-long = T .parents-long;
+        via-long = T .via-long;
         closings-long = T .closings-long;
         root = T .root;
         dr = T .leaving-in;

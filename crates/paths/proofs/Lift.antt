@@ -14,7 +14,7 @@ use Rattle.laws.proofs.Stores.{le-or-lt}
 use Rattle.laws.proofs.Stores.{same-or}
 
 module _ (cells : List ℕ) (m track : ℕ) (pairing owner prices discounts d0 p0 s0 : List ℕ) (R : Searchable cells m track pairing owner prices discounts d0 p0 s0)
-    (D report leaver : ℕ) (labels parents closings : List ℕ) (E : Ended cells m (length prices) pairing owner prices discounts track D report leaver labels parents closings)
+    (D report leaver : ℕ) (labels via closings : List ℕ) (E : Ended cells m (length prices) pairing owner prices discounts track D report leaver labels via closings)
     (prices1 discounts1 : List ℕ) (RU : RowsUp pairing labels D prices prices1) (CU : ColsUp labels D discounts discounts1) where
   abbrev n : ℕ
   n = length prices
@@ -114,15 +114,15 @@ module _ (cells : List ℕ) (m track : ℕ) (pairing owner prices discounts d0 p
         (λ a. inr (a .0, (a .1 .0, ⊎-elim (λ z. absurd (omega arith)) (λ b. b) (a .1 .1 .0)))) (x .how);
   }
 
-  pub turned : Finishable cells m n prices2 discounts1 track parents closings report leaver pairing owner
+  pub turned : Finishable cells m n prices2 discounts1 track via closings report leaver pairing owner
   turned = record {
     shape = shape2;
-    parents-long = E .parents-long;
+    via-long = E .via-long;
     closings-long = E .closings-long;
     track-in = R .track-in;
     rp = R .rp;
     M = match2;
-    chain = λ b. record { step = λ c g s l. tight2 c g s (at parents c) (E .links c g s) };
+    chain = λ b. record { step = λ c g s l. tight2 c g s (at via c) (E .links c g s) };
     end = ⊎-elim (λ a. inl (a .0, (a .1 .0, a .1 .1 .0)))
         (λ a. inr (
           a .0,
@@ -133,7 +133,7 @@ module _ (cells : List ℕ) (m track : ℕ) (pairing owner prices discounts d0 p
         (E .end);
   }
 
-  pub turned-at : (x : ℕ) → x ≡ track → Finishable cells m n (set prices1 x (at prices1 x + D)) discounts1 track parents closings report leaver pairing owner
+  pub turned-at : (x : ℕ) → x ≡ track → Finishable cells m n (set prices1 x (at prices1 x + D)) discounts1 track via closings report leaver pairing owner
   turned-at x e = rw e turned
 
   inserted-r : (pairing' owner' : List ℕ) → Settled cells m n prices2 discounts1 track pairing owner pairing' owner' → Inserted cells m n track pairing prices pairing' owner' prices2 discounts1
@@ -182,8 +182,8 @@ module _ (cells : List ℕ) (m track : ℕ) (pairing owner prices discounts d0 p
   pub u1-small : (x : ℕ) → x ≡ track → at prices1 x + D ≤ leftOut
   u1-small x e = omega (arith, ap (at prices1) e, u1-r, E .dr)
 
-  pub turned-len : (x : ℕ) → x ≡ track → Finishable cells m (length (set prices1 x (at prices1 x + D))) (set prices1 x (at prices1 x + D)) discounts1 track parents closings report leaver pairing owner
-  turned-len x e = subst (λ (k : ℕ). Finishable cells m k (set prices1 x (at prices1 x + D)) discounts1 track parents closings report leaver pairing owner) (sym (len2 x)) (turned-at x e)
+  pub turned-len : (x : ℕ) → x ≡ track → Finishable cells m (length (set prices1 x (at prices1 x + D))) (set prices1 x (at prices1 x + D)) discounts1 track via closings report leaver pairing owner
+  turned-len x e = subst (λ (k : ℕ). Finishable cells m k (set prices1 x (at prices1 x + D)) discounts1 track via closings report leaver pairing owner) (sym (len2 x)) (turned-at x e)
 
   pub inserted-len : (x : ℕ) → x ≡ track → (pairing' owner' : List ℕ) → Settled cells m (length (set prices1 x (at prices1 x + D))) (set prices1 x (at prices1 x + D)) discounts1 track pairing owner pairing' owner'
       → Inserted cells m n track pairing prices pairing' owner' (set prices1 x (at prices1 x + D)) discounts1
@@ -192,8 +192,8 @@ module _ (cells : List ℕ) (m track : ℕ) (pairing owner prices discounts d0 p
 
 -- a report nearer than D is its owner's
 pub paid : (cells : List ℕ) (m track : ℕ) (pairing owner prices discounts d0 p0 s0 : List ℕ) → Searchable cells m track pairing owner prices discounts d0 p0 s0
-    → (D report leaver : ℕ) (labels parents closings : List ℕ) → Ended cells m (length prices) pairing owner prices discounts track D report leaver labels parents closings → Paid pairing owner labels prices D
-paid cells m track pairing owner prices discounts d0 p0 s0 R D report leaver labels parents closings E = record {
+    → (D report leaver : ℕ) (labels via closings : List ℕ) → Ended cells m (length prices) pairing owner prices discounts track D report leaver labels via closings → Paid pairing owner labels prices D
+paid cells m track pairing owner prices discounts d0 p0 s0 R D report leaver labels via closings E = record {
   owner-long = omega (arith, R .shape .owner-long, E .labels-long);
   small = λ i h. omega (arith, E .dr, R .P .price-in i h);
   mine = λ i h p. ⊎-elim (λ z. absurd (omega (arith, E .labels-long, R .shape .reports-few))) (λ z. z .1 .1) (R .M .paired i h);

@@ -41,7 +41,7 @@ module _ (cells : List ℕ) (m n i : ℕ) (h : i < n) (l : length cells ≡ n * 
   pub from-at : (lo k : ℕ) → k < m - lo → at (row-from cells m i lo) k ≡ cell cells m i (lo + k)
   from-at lo k g = part-at cells (i * m + lo) (i * m + m) k (omega arith) ∙ ap (at cells) (omega arith)
 
-module _ (cells : List ℕ) (m lo i d : ℕ) (prices discounts labels parents : List ℕ) (F : Scannable cells m lo i d prices discounts labels parents) where
+module _ (cells : List ℕ) (m lo i d : ℕ) (prices discounts labels via : List ℕ) (F : Scannable cells m lo i d prices discounts labels via) where
   abbrev n : ℕ
   n = length prices
 
@@ -52,11 +52,11 @@ module _ (cells : List ℕ) (m lo i d : ℕ) (prices discounts labels parents : 
   rest-at : (xs : List ℕ) → length xs ≡ m → (k : ℕ) → k < m - lo → at (rest xs lo) k ≡ at xs (lo + k)
   rest-at xs e k h = part-at xs lo (length xs) k (omega arith)
 
-  fair-i : Fair (row-from cells m i lo) (rest discounts lo) (rest labels lo) (rest parents lo) d (at prices i)
+  fair-i : Fair (row-from cells m i lo) (rest discounts lo) (rest labels lo) (rest via lo) d (at prices i)
   fair-i = record {
     lc = from-length cells m n i (F .ii) (F .cells-long) lo (F .first-in) ∙ sym ld;
     discounts-long = rest-length discounts (F .discounts-long) ∙ sym ld;
-    parents-long = rest-length parents (F .parents-long) ∙ sym ld;
+    via-long = rest-length via (F .via-long) ∙ sym ld;
     cells-good = λ k h.
         let g : k < m - lo = omega (arith, ld) in
         rw (from-at cells m n i (F .ii) (F .cells-long) lo k g) (F .cells-good (i * m + (lo + k)) (omega (arith, row-end cells m n i (F .ii) (F .cells-long))));
@@ -73,18 +73,18 @@ module _ (cells : List ℕ) (m lo i d : ℕ) (prices discounts labels parents : 
       ld : length (rest labels lo) ≡ m - lo
       ld = rest-length labels (F .labels-long)
 
-  pub fair : (x : ℕ) → x ≡ i → Fair (row-from cells m x lo) (rest discounts lo) (rest labels lo) (rest parents lo) d (at prices x)
+  pub fair : (x : ℕ) → x ≡ i → Fair (row-from cells m x lo) (rest discounts lo) (rest labels lo) (rest via lo) d (at prices x)
   fair x q = rw q fair-i
 
   -- the whole list after the offers, from what stands from lo on
   abbrev whole : List ℕ → List ℕ → List ℕ
   whole xs ys = putMid lo (length xs - lo) xs ys
 
-  scanned-i : (D Q : List ℕ) → Relaxed (row-from cells m i lo) (rest discounts lo) d (at prices i) i (rest labels lo) (rest parents lo) D Q
-      → Scanned cells m discounts d (at prices i) i labels parents (whole labels D) (whole parents Q)
+  scanned-i : (D Q : List ℕ) → Relaxed (row-from cells m i lo) (rest discounts lo) d (at prices i) i (rest labels lo) (rest via lo) D Q
+      → Scanned cells m discounts d (at prices i) i labels via (whole labels D) (whole via Q)
   scanned-i D Q R = record {
     labels-long = same-len-mid lo (length labels - lo) labels D (R .labels-long) ∙ F .labels-long;
-    parents-long = same-len-mid lo (length parents - lo) parents Q (R .parents-long ∙ (rest-length labels (F .labels-long) ∙ sym (rest-length parents (F .parents-long)))) ∙ F .parents-long;
+    via-long = same-len-mid lo (length via - lo) via Q (R .via-long ∙ (rest-length labels (F .labels-long) ∙ sym (rest-length via (F .via-long)))) ∙ F .via-long;
     steps = λ e h. ⊎-elim (λ l. let q : lo + (e - lo) ≡ e = omega arith in subst StepAt q (later (e - lo) (omega arith))) (λ l. early e h l) (le-or-lt lo e);
   }
     where
@@ -92,32 +92,32 @@ module _ (cells : List ℕ) (m lo i d : ℕ) (prices discounts labels parents : 
       lD = R .labels-long ∙ rest-length labels (F .labels-long)
 
       lQ : length Q ≡ m - lo
-      lQ = R .parents-long ∙ rest-length labels (F .labels-long)
+      lQ = R .via-long ∙ rest-length labels (F .labels-long)
 
       StepAt : ℕ → Type 0
-      StepAt e = Step (cell cells m i e) (at discounts e) d (at prices i) i (at labels e) (at parents e) (at (whole labels D) e) (at (whole parents Q) e)
+      StepAt e = Step (cell cells m i e) (at discounts e) d (at prices i) i (at labels e) (at via e) (at (whole labels D) e) (at (whole via Q) e)
 
       later : (k : ℕ) → k < m - lo → StepAt (lo + k)
       later k g = rw (
         put-in labels D lo (length labels - lo) (omega (arith, F .first-in, F .labels-long)) k (omega (arith, lD)),
-        put-in parents Q lo (length parents - lo) (omega (arith, F .first-in, F .parents-long)) k (omega (arith, lQ)),
+        put-in via Q lo (length via - lo) (omega (arith, F .first-in, F .via-long)) k (omega (arith, lQ)),
         ← from-at cells m n i (F .ii) (F .cells-long) lo k g,
         ← rest-at discounts (F .discounts-long) k g,
         ← rest-at labels (F .labels-long) k g,
-        ← rest-at parents (F .parents-long) k g,
+        ← rest-at via (F .via-long) k g,
       ) (R .steps k (omega (arith, rest-length labels (F .labels-long))))
 
       -- a closed report keeps its label, which is not above d
       early : (e : ℕ) → e < m → e < lo → StepAt e
       early e h l =
           let p = put-before labels D lo (length labels - lo) (omega (arith, F .first-in, F .labels-long)) e l in
-          let q = put-before parents Q lo (length parents - lo) (omega (arith, F .first-in, F .parents-long)) e l in
+          let q = put-before via Q lo (length via - lo) (omega (arith, F .first-in, F .via-long)) e l in
           rw (p, q) (record {
             less = le-refl _;
             reach = λ a. omega (arith, F .before e l, F .P .fair i e (F .ii) h a);
             why = inl (refl, refl);
           })
 
-  pub scanned : (x : ℕ) → x ≡ i → (D Q : List ℕ) → Relaxed (row-from cells m x lo) (rest discounts lo) d (at prices x) i (rest labels lo) (rest parents lo) D Q
-      → Scanned cells m discounts d (at prices i) i labels parents (whole labels D) (whole parents Q)
+  pub scanned : (x : ℕ) → x ≡ i → (D Q : List ℕ) → Relaxed (row-from cells m x lo) (rest discounts lo) d (at prices x) i (rest labels lo) (rest via lo) D Q
+      → Scanned cells m discounts d (at prices i) i labels via (whole labels D) (whole via Q)
   scanned x q D Q R = scanned-i D Q (rw q at R)

@@ -12,17 +12,17 @@ use Rattle.paths.specs.State.{Flips, Flipped, Finishable, Settled}
 use Rattle.laws.proofs.Stores.{same-or}
 use Rattle.paths.proofs.Swap.{gone, stays, vacated, shape1, chain-set}
 
-module _ (cells : List ℕ) (m n : ℕ) (prices discounts : List ℕ) (track : ℕ) (parents closings : List ℕ) (report leaver : ℕ) (pairing owner : List ℕ)
-    (T : Finishable cells m n prices discounts track parents closings report leaver pairing owner) where
+module _ (cells : List ℕ) (m n : ℕ) (prices discounts : List ℕ) (track : ℕ) (via closings : List ℕ) (report leaver : ℕ) (pairing owner : List ℕ)
+    (T : Finishable cells m n prices discounts track via closings report leaver pairing owner) where
   module _ (cn : report ≡ none → ⊥) where
     at-col : (report < m) × ((at owner report ≡ none) × (far ≤ at closings report))
     at-col = ⊎-elim (λ x. x) (λ x. absurd (cn (x .0))) (T .end)
 
-    pub flips-col : Flips cells m n prices discounts track parents closings pairing owner pairing owner report
+    pub flips-col : Flips cells m n prices discounts track via closings pairing owner pairing owner report
     flips-col = record {
       shape = T .shape;
       moved = record { from = λ i h l. inl l; free = λ j h z. z };
-      parents-long = T .parents-long;
+      via-long = T .via-long;
       closings-long = T .closings-long;
       track-in = T .track-in;
       kept = λ i h l. l;
@@ -73,11 +73,11 @@ module _ (cells : List ℕ) (m n : ℕ) (prices discounts : List ℕ) (track : �
       pair1-o : (k : ℕ) → (k ≡ leaver → ⊥) → at pairing1 k ≡ at pairing k
       pair1-o = stays cells m n prices discounts pairing owner (T .shape) (T .M) leaver (left-out .0) (left-out .1 .0)
 
-      flips-0 : Flips cells m n prices discounts track parents closings pairing1 owner pairing1 owner (at pairing leaver)
+      flips-0 : Flips cells m n prices discounts track via closings pairing1 owner pairing1 owner (at pairing leaver)
       flips-0 = record {
         shape = shape1 cells m n prices discounts pairing owner (T .shape) (T .M) leaver (left-out .0) (left-out .1 .0);
         moved = record { from = λ i h l. inl l; free = λ j h z. z };
-        parents-long = T .parents-long;
+        via-long = T .via-long;
         closings-long = T .closings-long;
         track-in = T .track-in;
         kept = λ i h l. l;
@@ -85,12 +85,12 @@ module _ (cells : List ℕ) (m n : ℕ) (prices discounts : List ℕ) (track : �
           hole-in = left-out .1 .0;
           hole-closed = left-out .1 .1 .0;
           M = vacated cells m n prices discounts pairing owner (T .shape) (T .M) leaver (left-out .0) (left-out .1 .0);
-          chain = chain-set cells m n prices discounts pairing track parents closings leaver none (at closings (at pairing leaver)) (T .chain (at closings (at pairing leaver))) (omega arith);
+          chain = chain-set cells m n prices discounts pairing track via closings leaver none (at closings (at pairing leaver)) (T .chain (at closings (at pairing leaver))) (omega arith);
           rp = pair1-o track (λ q. rn (sym q)) ∙ T .rp;
         });
       }
 
-      pub flips-row : (t : ℕ) → t ≡ leaver → Flips cells m n prices discounts track parents closings (set pairing t none) owner (set pairing t none) owner (at pairing t)
+      pub flips-row : (t : ℕ) → t ≡ leaver → Flips cells m n prices discounts track via closings (set pairing t none) owner (set pairing t none) owner (at pairing t)
       flips-row t e = rw e flips-0
 
       pub settled-row : (t : ℕ) → t ≡ leaver → (pairing' owner' : List ℕ) → Flipped cells m n prices discounts track (set pairing t none) owner pairing' owner' → Settled cells m n prices discounts track pairing owner pairing' owner'

@@ -104,8 +104,8 @@ module _ (cells : List ℕ) (m n : ℕ) (prices discounts pairing owner : List �
   shape1 = record { cells-long = S .cells-long; pairing-long = simp length-set (S .pairing-long); owner-long = S .owner-long; prices-long = S .prices-long; discounts-long = S .discounts-long; tracks-few = S .tracks-few; reports-few = S .reports-few; cells-good = S .cells-good }
 
 -- a chain below p outlives a store at p's track
-module _ (cells : List ℕ) (m n : ℕ) (prices discounts pairing : List ℕ) (track : ℕ) (parents closings : List ℕ) (i v bound : ℕ)
-    (K : Chain cells m n pairing prices discounts track parents closings bound) (low : at closings (at pairing i) ≤ bound) where
+module _ (cells : List ℕ) (m n : ℕ) (prices discounts pairing : List ℕ) (track : ℕ) (via closings : List ℕ) (i v bound : ℕ)
+    (K : Chain cells m n pairing prices discounts track via closings bound) (low : at closings (at pairing i) ≤ bound) where
   tight-set : (c : ℕ) → at closings c ≤ at closings (at pairing i) → (k : ℕ) → Tight cells m n pairing prices discounts track closings c k → Tight cells m n (set pairing i v) prices discounts track closings c k
   tight-set c l k t = record {
     there = t .there;
@@ -116,16 +116,16 @@ module _ (cells : List ℕ) (m n : ℕ) (prices discounts pairing : List ℕ) (t
         inr (rw e a)) (t .next);
   }
 
-  pub chain-set : Chain cells m n (set pairing i v) prices discounts track parents closings (at closings (at pairing i))
-  chain-set = record { step = λ c g s l. tight-set c l (at parents c) (K .step c g s (omega arith)) }
+  pub chain-set : Chain cells m n (set pairing i v) prices discounts track via closings (at closings (at pairing i))
+  chain-set = record { step = λ c g s l. tight-set c l (at via c) (K .step c g s (omega arith)) }
 
-module _ (cells : List ℕ) (m n : ℕ) (prices discounts : List ℕ) (track : ℕ) (parents closings pairing0 owner0 pairing owner : List ℕ) (h : ℕ)
-    (F : Flips cells m n prices discounts track parents closings pairing0 owner0 pairing owner h) (hn : h ≡ none → ⊥) where
-  pub holed : Holed cells m n prices discounts track parents closings pairing owner h
+module _ (cells : List ℕ) (m n : ℕ) (prices discounts : List ℕ) (track : ℕ) (via closings pairing0 owner0 pairing owner : List ℕ) (h : ℕ)
+    (F : Flips cells m n prices discounts track via closings pairing0 owner0 pairing owner h) (hn : h ≡ none → ⊥) where
+  pub holed : Holed cells m n prices discounts track via closings pairing owner h
   holed = ⊎-elim (λ x. x) (λ x. absurd (hn (x .0))) (F .state)
 
   abbrev i : ℕ
-  i = at parents h
+  i = at via h
 
   pub tight-h : Tight cells m n pairing prices discounts track closings h i
   tight-h = holed .chain .step h (holed .hole-in) (holed .hole-closed) (omega arith)
@@ -150,7 +150,7 @@ module _ (cells : List ℕ) (m n : ℕ) (prices discounts : List ℕ) (track : �
         (λ d. F .moved .free j g (sym (getD-set-other owner h j i 0 d) ∙ z)) (same-or j h);
   }
 
-  state' : Holed cells m n prices discounts track parents closings pairF (set owner h i) (at pairing i) ⊎ ((at pairing i ≡ none) × Unbroken cells m n prices discounts track pairF (set owner h i))
+  state' : Holed cells m n prices discounts track via closings pairF (set owner h i) (at pairing i) ⊎ ((at pairing i ≡ none) × Unbroken cells m n prices discounts track pairF (set owner h i))
   state' = ⊎-elim
       (λ q. let z : at pairing i ≡ none = ap (at pairing) q ∙ holed .rp in
       inr (z, record { M = (rw z at match'); rp = omega (arith, ap (at pairF) q, pairF-i, holed .hole-in) }))
@@ -158,15 +158,15 @@ module _ (cells : List ℕ) (m n : ℕ) (prices discounts : List ℕ) (track : �
         hole-in = a .0;
         hole-closed = a .1 .0;
         M = match';
-        chain = chain-set cells m n prices discounts pairing track parents closings i h (at closings h) (holed .chain) (omega (arith, a .1 .1));
+        chain = chain-set cells m n prices discounts pairing track via closings i h (at closings h) (holed .chain) (omega (arith, a .1 .1));
         rp = getD-set-other pairing i track h 0 (λ q. omega (arith, ap (at pairing) q, holed .rp, a .0, F .shape .reports-few)) ∙ holed .rp;
       }))
       (tight-h .next)
 
-  flip-h : Flips cells m n prices discounts track parents closings pairing0 owner0 pairF (set owner h i) (at pairing i)
+  flip-h : Flips cells m n prices discounts track via closings pairing0 owner0 pairF (set owner h i) (at pairing i)
   flip-h = record {
     shape = shape' cells m n prices discounts pairing owner (F .shape) h (holed .hole-in) (holed .M) i (tight-h .there) (tight-h .admissible) (tight-h .tight);
-    parents-long = F .parents-long;
+    via-long = F .via-long;
     closings-long = F .closings-long;
     track-in = F .track-in;
     moved = moved';
@@ -174,7 +174,7 @@ module _ (cells : List ℕ) (m n : ℕ) (prices discounts : List ℕ) (track : �
     state = state';
   }
 
-  pub flip-step : (x y : ℕ) → x ≡ h → y ≡ at parents x → Flips cells m n prices discounts track parents closings pairing0 owner0 (set pairing y h) (set owner x (at parents x)) (at pairing y)
+  pub flip-step : (x y : ℕ) → x ≡ h → y ≡ at via x → Flips cells m n prices discounts track via closings pairing0 owner0 (set pairing y h) (set owner x (at via x)) (at pairing y)
   flip-step x y ex ey = rw (ey, ex) flip-h
 
   fall-h : at closings (at pairing i) < at closings h
@@ -183,8 +183,8 @@ module _ (cells : List ℕ) (m n : ℕ) (prices discounts : List ℕ) (track : �
       omega (arith, holed .hole-closed, ap (at closings) z, List·getD-eq-default closings 0 {n = none} (omega (arith, F .closings-long, F .shape .reports-few))))
       (λ a. a .1 .1) (tight-h .next)
 
-  pub fall : (x y : ℕ) → x ≡ h → y ≡ at parents x → at closings (at pairing y) < at closings h
+  pub fall : (x y : ℕ) → x ≡ h → y ≡ at via x → at closings (at pairing y) < at closings h
   fall x y ex ey = rw (ey, ex) fall-h
 
-  pub row-of : (x y : ℕ) → x ≡ h → y ≡ at parents x → y < n
+  pub row-of : (x y : ℕ) → x ≡ h → y ≡ at via x → y < n
   row-of x y ex ey = rw (ey, ex) (tight-h .there)

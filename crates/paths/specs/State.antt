@@ -70,10 +70,10 @@ pub record Link (cells : List ℕ) (m n : ℕ) (pairing prices discounts : List 
       ⊎ ((at pairing i < m) × ((far ≤ at closings (at pairing i)) × (((at closings c ≡ 0) ⊎ (at closings (at pairing i) < at closings c))
       × (at labels c + at prices i ≡ at labels (at pairing i) + cell cells m i c + at discounts c))))
 
--- the search from a track: labels, parents, and the order in which reports were closed
-pub record Tree (cells : List ℕ) (m n : ℕ) (pairing owner prices discounts : List ℕ) (track leaving leaver k : ℕ) (labels parents closings : List ℕ) : Type 0 where
+-- the search from a track: labels, the track via which each report was reached, and the order in which reports were closed
+pub record Tree (cells : List ℕ) (m n : ℕ) (pairing owner prices discounts : List ℕ) (track leaving leaver k : ℕ) (labels via closings : List ℕ) : Type 0 where
   pub labels-long : length labels ≡ m
-  pub parents-long : length parents ≡ m
+  pub via-long : length via ≡ m
   pub closings-long : length closings ≡ m
   pub cap : (j : ℕ) → j < m → at labels j ≤ leftOut
   pub two : (j : ℕ) → j < m → (at closings j ≡ 0) ⊎ ((far ≤ at closings j) × (at closings j < far + k))
@@ -84,16 +84,16 @@ pub record Tree (cells : List ℕ) (m n : ℕ) (pairing owner prices discounts :
   pub leaving-in : leaving + at prices track ≤ leftOut
   pub last : ((leaver ≡ track) × (leaving + at prices track ≡ leftOut))
       ⊎ ((leaver < n) × ((at pairing leaver < m) × ((far ≤ at closings (at pairing leaver)) × (leaving + at prices leaver ≡ at labels (at pairing leaver) + leftOut))))
-  pub links : (c : ℕ) → c < m → at labels c < leftOut → Link cells m n pairing prices discounts track labels closings c (at parents c)
+  pub links : (c : ℕ) → c < m → at labels c < leftOut → Link cells m n pairing prices discounts track labels closings c (at via c)
   pub count : k + zeros closings ≡ m
 
-pub record Scanned (cells : List ℕ) (m : ℕ) (discounts : List ℕ) (d ui i : ℕ) (labels parents labels' parents' : List ℕ) : Type 0 where
+pub record Scanned (cells : List ℕ) (m : ℕ) (discounts : List ℕ) (d ui i : ℕ) (labels via labels' via' : List ℕ) : Type 0 where
   pub labels-long : length labels' ≡ m
-  pub parents-long : length parents' ≡ m
-  pub steps : (e : ℕ) → e < m → Step (cell cells m i e) (at discounts e) d ui i (at labels e) (at parents e) (at labels' e) (at parents' e)
+  pub via-long : length via' ≡ m
+  pub steps : (e : ℕ) → e < m → Step (cell cells m i e) (at discounts e) d ui i (at labels e) (at via e) (at labels' e) (at via' e)
 
 -- what scan asks: the reports before lo are closed
-pub record Scannable (cells : List ℕ) (m lo i d : ℕ) (prices discounts labels parents : List ℕ) : Type 0 where
+pub record Scannable (cells : List ℕ) (m lo i d : ℕ) (prices discounts labels via : List ℕ) : Type 0 where
   pub first-in : lo ≤ m
   pub before : (e : ℕ) → e < lo → at labels e ≤ d
   pub ii : i < length prices
@@ -101,33 +101,33 @@ pub record Scannable (cells : List ℕ) (m lo i d : ℕ) (prices discounts label
   pub cells-good : (k : ℕ) → k < length cells → IsCell (at cells k)
   pub discounts-long : length discounts ≡ m
   pub labels-long : length labels ≡ m
-  pub parents-long : length parents ≡ m
+  pub via-long : length via ≡ m
   pub label-in : d ≤ leftOut
   pub P : Prices cells m (length prices) prices discounts
   pub cap : (j : ℕ) → j < m → at labels j ≤ leftOut
 
 -- what search asks: a track that is in no pair
-pub record Searchable (cells : List ℕ) (m track : ℕ) (pairing owner prices discounts labels parents closings : List ℕ) : Type 0 where
+pub record Searchable (cells : List ℕ) (m track : ℕ) (pairing owner prices discounts labels via closings : List ℕ) : Type 0 where
   pub shape : Shape cells m (length prices) pairing owner prices discounts
   pub P : Prices cells m (length prices) prices discounts
   pub M : Match cells m (length prices) pairing owner prices discounts none
   pub track-in : track < length prices
   pub rp : at pairing track ≡ none
   pub labels-long : length labels ≡ m
-  pub parents-long : length parents ≡ m
+  pub via-long : length via ≡ m
   pub closings-long : length closings ≡ m
 
 -- what a search finds: labels, and D, at which a free report is reached or a track is left out
-pub record Ended (cells : List ℕ) (m n : ℕ) (pairing owner prices discounts : List ℕ) (track D report leaver : ℕ) (labels parents closings : List ℕ) : Type 0 where
+pub record Ended (cells : List ℕ) (m n : ℕ) (pairing owner prices discounts : List ℕ) (track D report leaver : ℕ) (labels via closings : List ℕ) : Type 0 where
   pub labels-long : length labels ≡ m
   pub cap : (j : ℕ) → j < m → at labels j ≤ leftOut
-  pub parents-long : length parents ≡ m
+  pub via-long : length via ≡ m
   pub closings-long : length closings ≡ m
   pub root : (j : ℕ) → j < m → cell cells m track j < far → at prices track + at labels j ≤ cell cells m track j + at discounts j
   pub dr : D + at prices track ≤ leftOut
   pub near : (c : ℕ) → c < m → at labels c < D → Closed cells m n pairing prices discounts D labels c (at owner c)
   pub low : (c : ℕ) → c < m → far ≤ at closings c → at labels c ≤ D
-  pub links : (c : ℕ) → c < m → far ≤ at closings c → Link cells m n pairing prices discounts track labels closings c (at parents c)
+  pub links : (c : ℕ) → c < m → far ≤ at closings c → Link cells m n pairing prices discounts track labels closings c (at via c)
   pub end : ((report < m) × ((at owner report ≡ none) × ((far ≤ at closings report) × (at labels report ≡ D))))
       ⊎ ((report ≡ none) × (((leaver ≡ track) × (D + at prices track ≡ leftOut))
       ⊎ ((leaver < n) × ((at pairing leaver < m) × ((far ≤ at closings (at pairing leaver)) × (D + at prices leaver ≡ at labels (at pairing leaver) + leftOut))))))
@@ -139,15 +139,15 @@ pub record Tight (cells : List ℕ) (m n : ℕ) (pairing prices discounts : List
   pub tight : at prices i ≡ cell cells m i c + at discounts c
   pub next : (i ≡ track) ⊎ ((at pairing i < m) × ((far ≤ at closings (at pairing i)) × (at closings (at pairing i) < at closings c)))
 
-pub record Chain (cells : List ℕ) (m n : ℕ) (pairing prices discounts : List ℕ) (track : ℕ) (parents closings : List ℕ) (bound : ℕ) : Type 0 where
-  pub step : (c : ℕ) → c < m → far ≤ at closings c → at closings c ≤ bound → Tight cells m n pairing prices discounts track closings c (at parents c)
+pub record Chain (cells : List ℕ) (m n : ℕ) (pairing prices discounts : List ℕ) (track : ℕ) (via closings : List ℕ) (bound : ℕ) : Type 0 where
+  pub step : (c : ℕ) → c < m → far ≤ at closings c → at closings c ≤ bound → Tight cells m n pairing prices discounts track closings c (at via c)
 
 -- a hole at h, to be filled along the chain
-pub record Holed (cells : List ℕ) (m n : ℕ) (prices discounts : List ℕ) (track : ℕ) (parents closings pairing owner : List ℕ) (h : ℕ) : Type 0 where
+pub record Holed (cells : List ℕ) (m n : ℕ) (prices discounts : List ℕ) (track : ℕ) (via closings pairing owner : List ℕ) (h : ℕ) : Type 0 where
   pub hole-in : h < m
   pub hole-closed : far ≤ at closings h
   pub M : Match cells m n pairing owner prices discounts h
-  pub chain : Chain cells m n pairing prices discounts track parents closings (at closings h)
+  pub chain : Chain cells m n pairing prices discounts track via closings (at closings h)
   pub rp : at pairing track ≡ none
 
 -- the hole is filled
@@ -160,14 +160,14 @@ pub record Moved (m n track : ℕ) (pairing owner pairing' owner' : List ℕ) : 
   pub from : (i : ℕ) → i < n → at pairing' i < m → (at pairing i < m) ⊎ (i ≡ track)
   pub free : (j : ℕ) → j < m → at owner' j ≡ none → at owner j ≡ none
 
-pub record Flips (cells : List ℕ) (m n : ℕ) (prices discounts : List ℕ) (track : ℕ) (parents closings pairing0 owner0 pairing owner : List ℕ) (h : ℕ) : Type 0 where
+pub record Flips (cells : List ℕ) (m n : ℕ) (prices discounts : List ℕ) (track : ℕ) (via closings pairing0 owner0 pairing owner : List ℕ) (h : ℕ) : Type 0 where
   pub shape : Shape cells m n pairing owner prices discounts
   pub moved : Moved m n track pairing0 owner0 pairing owner
-  pub parents-long : length parents ≡ m
+  pub via-long : length via ≡ m
   pub closings-long : length closings ≡ m
   pub track-in : track < n
   pub kept : (i : ℕ) → i < n → at pairing0 i < m → at pairing i < m
-  pub state : Holed cells m n prices discounts track parents closings pairing owner h ⊎ ((h ≡ none) × Unbroken cells m n prices discounts track pairing owner)
+  pub state : Holed cells m n prices discounts track via closings pairing owner h ⊎ ((h ≡ none) × Unbroken cells m n prices discounts track pairing owner)
 
 pub record Flipped (cells : List ℕ) (m n : ℕ) (prices discounts : List ℕ) (track : ℕ) (pairing owner pairing' owner' : List ℕ) : Type 0 where
   pub shape : Shape cells m n pairing' owner' prices discounts
@@ -181,14 +181,14 @@ pub record Good (cells : List ℕ) (m n : ℕ) (pairing owner prices discounts :
   pub M : Match cells m n pairing owner prices discounts none
 
 -- the pairing is to be changed along the chain that ends in a free report, or in a track that is left out
-pub record Finishable (cells : List ℕ) (m n : ℕ) (prices discounts : List ℕ) (track : ℕ) (parents closings : List ℕ) (report leaver : ℕ) (pairing owner : List ℕ) : Type 0 where
+pub record Finishable (cells : List ℕ) (m n : ℕ) (prices discounts : List ℕ) (track : ℕ) (via closings : List ℕ) (report leaver : ℕ) (pairing owner : List ℕ) : Type 0 where
   pub shape : Shape cells m n pairing owner prices discounts
-  pub parents-long : length parents ≡ m
+  pub via-long : length via ≡ m
   pub closings-long : length closings ≡ m
   pub track-in : track < n
   pub rp : at pairing track ≡ none
   pub M : Match cells m n pairing owner prices discounts none
-  pub chain : (b : ℕ) → Chain cells m n pairing prices discounts track parents closings b
+  pub chain : (b : ℕ) → Chain cells m n pairing prices discounts track via closings b
   pub end : ((report < m) × ((at owner report ≡ none) × (far ≤ at closings report)))
       ⊎ ((report ≡ none) × (((leaver ≡ track) × (at prices track ≡ leftOut))
       ⊎ ((leaver < n) × ((at pairing leaver < m) × ((far ≤ at closings (at pairing leaver)) × (at prices leaver ≡ leftOut))))))

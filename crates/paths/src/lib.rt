@@ -39,10 +39,10 @@ fn scan(
     prices: &[u32],
     discounts: &[u32],
     labels: &mut [u32],
-    parents: &mut [u32],
+    via: &mut [u32],
 )
-    requires { ⌜ Scannable (now sheet) reports lo i d (now prices) (now discounts) (now labels) (now parents) ⌝ }
-    ensures { λ r. ⌜ Scanned (now (sheet .entry)) reports (now (discounts .entry)) d (at (now (prices .entry)) i) i (now (labels .entry)) (now (parents .entry)) (now (labels .exit)) (now (parents .exit)) ⌝ }
+    requires { ⌜ Scannable (now sheet) reports lo i d (now prices) (now discounts) (now labels) (now via) ⌝ }
+    ensures { λ r. ⌜ Scanned (now (sheet .entry)) reports (now (discounts .entry)) d (at (now (prices .entry)) i) i (now (labels .entry)) (now (via .entry)) (now (labels .exit)) (now (via .exit)) ⌝ }
 {
     let ii = idx(i);
     let a = ii * reports;
@@ -56,7 +56,7 @@ fn scan(
         price,
         i,
         &mut labels[lo..],
-        &mut parents[lo..],
+        &mut via[lo..],
     );
 }
 
@@ -70,11 +70,11 @@ fn search(
     prices: &[u32],
     discounts: &[u32],
     labels: &mut [u32],
-    parents: &mut [u32],
+    via: &mut [u32],
     closings: &mut [u32],
 ) -> Ending
-    requires { ⌜ Searchable (now sheet) reports track (now pairing) (now owner) (now prices) (now discounts) (now labels) (now parents) (now closings) ⌝ }
-    ensures { λ f. ⌜ Ended (now (sheet .entry)) reports (length (now (prices .entry))) (now (pairing .entry)) (now (owner .entry)) (now (prices .entry)) (now (discounts .entry)) track (f .d) (f .report) (f .leaver) (now (labels .exit)) (now (parents .exit)) (now (closings .exit)) ⌝ }
+    requires { ⌜ Searchable (now sheet) reports track (now pairing) (now owner) (now prices) (now discounts) (now labels) (now via) (now closings) ⌝ }
+    ensures { λ f. ⌜ Ended (now (sheet .entry)) reports (length (now (prices .entry))) (now (pairing .entry)) (now (owner .entry)) (now (prices .entry)) (now (discounts .entry)) track (f .d) (f .report) (f .leaver) (now (labels .exit)) (now (via .exit)) (now (closings .exit)) ⌝ }
 {
     fill(labels, LEFT_OUT);
     fill(closings, 0);
@@ -82,17 +82,7 @@ fn search(
     let mut leaver = track;
     let mut k: u32 = 0;
     let mut lo: usize = 0;
-    scan(
-        sheet,
-        reports,
-        lo,
-        track,
-        0,
-        prices,
-        discounts,
-        labels,
-        parents,
-    );
+    scan(sheet, reports, lo, track, 0, prices, discounts, labels, via);
     let mut j = nearest_from(lo, labels, closings, leaving);
     while j < reports {
         let d = labels[j];
@@ -111,7 +101,7 @@ fn search(
         leaver = choose(x, leaving, o, leaver);
         leaving = lesser(x, leaving);
         lo = open_from(closings, lo);
-        scan(sheet, reports, lo, o, d, prices, discounts, labels, parents);
+        scan(sheet, reports, lo, o, d, prices, discounts, labels, via);
         j = nearest_from(lo, labels, closings, leaving);
     }
     Ending {
@@ -129,19 +119,19 @@ fn flip(
     prices: &[u32],
     discounts: &[u32],
     track: u32,
-    parents: &[u32],
+    via: &[u32],
     closings: &[u32],
     start: u32,
     pairing: &mut [u32],
     owner: &mut [u32],
 )
-    requires { ⌜ Flips (now sheet) reports (length (now prices)) (now prices) (now discounts) track (now parents) (now closings) (now pairing) (now owner) (now pairing) (now owner) start ⌝ }
+    requires { ⌜ Flips (now sheet) reports (length (now prices)) (now prices) (now discounts) track (now via) (now closings) (now pairing) (now owner) (now pairing) (now owner) start ⌝ }
     ensures { λ _. ⌜ Flipped (now (sheet .entry)) reports (length (now (prices .entry))) (now (prices .entry)) (now (discounts .entry)) track (now (pairing .entry)) (now (owner .entry)) (now (pairing .exit)) (now (owner .exit)) ⌝ }
 {
     let mut h = start;
     while h != NONE {
         let hh = idx(h);
-        let i = parents[hh];
+        let i = via[hh];
         let ii = idx(i);
         let next = pairing[ii];
         pairing[ii] = h;
@@ -157,14 +147,14 @@ fn finish(
     prices: &[u32],
     discounts: &[u32],
     track: u32,
-    parents: &[u32],
+    via: &[u32],
     closings: &[u32],
     report: u32,
     leaver: u32,
     pairing: &mut [u32],
     owner: &mut [u32],
 )
-    requires { ⌜ Finishable (now sheet) reports (length (now prices)) (now prices) (now discounts) track (now parents) (now closings) report leaver (now pairing) (now owner) ⌝ }
+    requires { ⌜ Finishable (now sheet) reports (length (now prices)) (now prices) (now discounts) track (now via) (now closings) report leaver (now pairing) (now owner) ⌝ }
     ensures { λ _. ⌜ Settled (now (sheet .entry)) reports (length (now (prices .entry))) (now (prices .entry)) (now (discounts .entry)) track (now (pairing .entry)) (now (owner .entry)) (now (pairing .exit)) (now (owner .exit)) ⌝ }
 {
     if report != NONE {
@@ -174,7 +164,7 @@ fn finish(
             prices,
             discounts,
             track,
-            parents,
+            via,
             closings,
             report,
             pairing,
@@ -194,7 +184,7 @@ fn finish(
         prices,
         discounts,
         track,
-        parents,
+        via,
         closings,
         s,
         pairing,
@@ -212,10 +202,10 @@ pub fn insert(
     prices: &mut [u32],
     discounts: &mut [u32],
     labels: &mut [u32],
-    parents: &mut [u32],
+    via: &mut [u32],
     closings: &mut [u32],
 ) -> Reach
-    requires { ⌜ Searchable (now sheet) reports track (now pairing) (now owner) (now prices) (now discounts) (now labels) (now parents) (now closings) ⌝ }
+    requires { ⌜ Searchable (now sheet) reports track (now pairing) (now owner) (now prices) (now discounts) (now labels) (now via) (now closings) ⌝ }
     ensures { λ r. ⌜ Inserted (now (sheet .entry)) reports (length (now (prices .entry))) track (now (pairing .entry)) (now (prices .entry)) (now (pairing .exit)) (now (owner .exit)) (now (prices .exit)) (now (discounts .exit)) × Reached (now (sheet .entry)) reports (length (now (prices .entry))) (now (pairing .entry)) (now (owner .entry)) (now (prices .entry)) (now (labels .exit)) (r .d) (now (pairing .exit)) (now (owner .exit)) (now (prices .exit)) ⌝ }
 {
     let f = search(
@@ -227,7 +217,7 @@ pub fn insert(
         prices,
         discounts,
         labels,
-        parents,
+        via,
         closings,
     );
     let d = f.d;
@@ -244,7 +234,7 @@ pub fn insert(
         prices,
         discounts,
         track,
-        parents,
+        via,
         closings,
         report,
         leaver,

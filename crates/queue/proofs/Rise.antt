@@ -147,10 +147,10 @@ module _ (cells : List ℕ) (m n track : ℕ) (pairing owner prices discounts sl
   }
 
 -- a track that waits, with the lists of a search
-pub waits : (cells : List ℕ) (m track : ℕ) (pairing owner prices discounts labels parents closings : List ℕ) → Good cells m (length prices) pairing owner prices discounts → Rooms m labels parents closings
-    → track < length prices → at pairing track ≡ none → Searchable cells m track pairing owner prices discounts labels parents closings
-waits cells m track pairing owner prices discounts labels parents closings G L h z =
-    record { shape = G .shape; P = G .P; M = G .M; track-in = h; rp = z; labels-long = L .labels-long; parents-long = L .parents-long; closings-long = L .closings-long }
+pub waits : (cells : List ℕ) (m track : ℕ) (pairing owner prices discounts labels via closings : List ℕ) → Good cells m (length prices) pairing owner prices discounts → Rooms m labels via closings
+    → track < length prices → at pairing track ≡ none → Searchable cells m track pairing owner prices discounts labels via closings
+waits cells m track pairing owner prices discounts labels via closings G L h z =
+    record { shape = G .shape; P = G .P; M = G .M; track-in = h; rp = z; labels-long = L .labels-long; via-long = L .via-long; closings-long = L .closings-long }
 
 -- with another name for the number of tracks
 pub lifting-at : (cells : List ℕ) (m n k : ℕ) (pairing owner prices discounts slack : List ℕ) → k ≡ n → Lifting cells m k pairing owner prices discounts slack → Lifting cells m n pairing owner prices discounts slack

@@ -20,7 +20,7 @@ pub record Lifting (cells : List ℕ) (m n : ℕ) (pairing owner prices discount
   pub slacks : Slack cells m n pairing owner prices slack
 
 -- the working lists of a search
-pub record Rooms (m : ℕ) (labels parents closings : List ℕ) : Type 0 where
+pub record Rooms (m : ℕ) (labels via closings : List ℕ) : Type 0 where
   pub labels-long : length labels ≡ m
-  pub parents-long : length parents ≡ m
+  pub via-long : length via ≡ m
   pub closings-long : length closings ≡ m

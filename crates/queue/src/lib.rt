@@ -107,11 +107,11 @@ fn lifted_turn(
     prices: &mut [u32],
     discounts: &mut [u32],
     labels: &mut [u32],
-    parents: &mut [u32],
+    via: &mut [u32],
     closings: &mut [u32],
     slack: &mut [u32],
 )
-    requires { ⌜ Lifting (now sheet) reports (length (now prices)) (now pairing) (now owner) (now prices) (now discounts) (now slack) × (Rooms reports (now labels) (now parents) (now closings) × ((track < length (now prices)) × (at (now pairing) track ≡ none))) ⌝ }
+    requires { ⌜ Lifting (now sheet) reports (length (now prices)) (now pairing) (now owner) (now prices) (now discounts) (now slack) × (Rooms reports (now labels) (now via) (now closings) × ((track < length (now prices)) × (at (now pairing) track ≡ none))) ⌝ }
     ensures { λ _. ⌜ Lifting (now (sheet .entry)) reports (length (now (prices .entry))) (now (pairing .exit)) (now (owner .exit)) (now (prices .exit)) (now (discounts .exit)) (now (slack .exit)) ⌝ }
 {
     lift(sheet, reports, pairing, owner, prices, discounts, slack);
@@ -124,7 +124,7 @@ fn lifted_turn(
         prices,
         discounts,
         labels,
-        parents,
+        via,
         closings,
     );
     let d = r.d;
@@ -139,11 +139,11 @@ fn lifted_turns(
     prices: &mut [u32],
     discounts: &mut [u32],
     labels: &mut [u32],
-    parents: &mut [u32],
+    via: &mut [u32],
     closings: &mut [u32],
     slack: &mut [u32],
 )
-    requires { ⌜ Lifting (now sheet) reports (length (now prices)) (now pairing) (now owner) (now prices) (now discounts) (now slack) × Rooms reports (now labels) (now parents) (now closings) ⌝ }
+    requires { ⌜ Lifting (now sheet) reports (length (now prices)) (now pairing) (now owner) (now prices) (now discounts) (now slack) × Rooms reports (now labels) (now via) (now closings) ⌝ }
     ensures { λ _. ⌜ Good (now (sheet .entry)) reports (length (now (prices .entry))) (now (pairing .exit)) (now (owner .exit)) (now (prices .exit)) (now (discounts .exit)) ⌝ }
 {
     let mut k: usize = 0;
@@ -161,7 +161,7 @@ fn lifted_turns(
             prices,
             discounts,
             labels,
-            parents,
+            via,
             closings,
             slack,
         );
@@ -186,10 +186,10 @@ fn first_turns(
     prices: &mut [u32],
     discounts: &mut [u32],
     labels: &mut [u32],
-    parents: &mut [u32],
+    via: &mut [u32],
     closings: &mut [u32],
 )
-    requires { ⌜ Good (now sheet) reports (length (now prices)) (now pairing) (now owner) (now prices) (now discounts) × Rooms reports (now labels) (now parents) (now closings) ⌝ }
+    requires { ⌜ Good (now sheet) reports (length (now prices)) (now pairing) (now owner) (now prices) (now discounts) × Rooms reports (now labels) (now via) (now closings) ⌝ }
     ensures { λ _. ⌜ Good (now (sheet .entry)) reports (length (now (prices .entry))) (now (pairing .exit)) (now (owner .exit)) (now (prices .exit)) (now (discounts .exit)) ⌝ }
 {
     let mut k: usize = 0;
@@ -207,7 +207,7 @@ fn first_turns(
             prices,
             discounts,
             labels,
-            parents,
+            via,
             closings,
         );
         let steps = r.steps;
@@ -224,11 +224,11 @@ fn later_turns(
     prices: &mut [u32],
     discounts: &mut [u32],
     labels: &mut [u32],
-    parents: &mut [u32],
+    via: &mut [u32],
     closings: &mut [u32],
     slack: &mut [u32],
 )
-    requires { ⌜ Good (now sheet) reports (length (now prices)) (now pairing) (now owner) (now prices) (now discounts) × (Rooms reports (now labels) (now parents) (now closings) × (length (now slack) ≡ reports)) ⌝ }
+    requires { ⌜ Good (now sheet) reports (length (now prices)) (now pairing) (now owner) (now prices) (now discounts) × (Rooms reports (now labels) (now via) (now closings) × (length (now slack) ≡ reports)) ⌝ }
     ensures { λ _. ⌜ Good (now (sheet .entry)) reports (length (now (prices .entry))) (now (pairing .exit)) (now (owner .exit)) (now (prices .exit)) (now (discounts .exit)) ⌝ }
 {
     if next_turn(pairing, prices) == 0 {
@@ -244,7 +244,7 @@ fn later_turns(
         prices,
         discounts,
         labels,
-        parents,
+        via,
         closings,
         slack,
     );
@@ -259,11 +259,11 @@ pub fn take_turns(
     prices: &mut [u32],
     discounts: &mut [u32],
     labels: &mut [u32],
-    parents: &mut [u32],
+    via: &mut [u32],
     closings: &mut [u32],
     slack: &mut [u32],
 )
-    requires { ⌜ Good (now sheet) reports (length (now prices)) (now pairing) (now owner) (now prices) (now discounts) × (Rooms reports (now labels) (now parents) (now closings) × (length (now slack) ≡ reports)) ⌝ }
+    requires { ⌜ Good (now sheet) reports (length (now prices)) (now pairing) (now owner) (now prices) (now discounts) × (Rooms reports (now labels) (now via) (now closings) × (length (now slack) ≡ reports)) ⌝ }
     ensures { λ _. ⌜ Good (now (sheet .entry)) reports (length (now (prices .entry))) (now (pairing .exit)) (now (owner .exit)) (now (prices .exit)) (now (discounts .exit)) ⌝ }
 {
     first_turns(
@@ -274,7 +274,7 @@ pub fn take_turns(
         prices,
         discounts,
         labels,
-        parents,
+        via,
         closings,
     );
     later_turns(
@@ -285,7 +285,7 @@ pub fn take_turns(
         prices,
         discounts,
         labels,
-        parents,
+        via,
         closings,
         slack,
     );

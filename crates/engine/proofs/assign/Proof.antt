@@ -10,16 +10,16 @@ use Rattle.engine.proofs.assign.Statement.{statement}
 use Rattle.engine.proofs.assign.Tie as tie
 
 abbrev Inv-loop : tie.InvT-loop
-Inv-loop sheet reports pairing₀ owner₀ prices₀ discounts₀ labels₀ parents₀ closings₀ slack track₀ pairing owner prices discounts labels parents closings track = Good sheet reports (length prices₀) pairing owner prices discounts × ((track ≤ length prices₀) × (((i : ℕ) → i < track → Done reports pairing prices i) × ((length labels ≡ reports) × ((length parents ≡ reports) × (length closings ≡ reports)))))
+Inv-loop sheet reports pairing₀ owner₀ prices₀ discounts₀ labels₀ via₀ closings₀ slack track₀ pairing owner prices discounts labels via closings track = Good sheet reports (length prices₀) pairing owner prices discounts × ((track ≤ length prices₀) × (((i : ℕ) → i < track → Done reports pairing prices i) × ((length labels ≡ reports) × ((length via ≡ reports) × (length closings ≡ reports)))))
 
 abbrev μ-loop : tie.MeasureT-loop
-μ-loop sheet reports pairing₀ owner₀ prices₀ discounts₀ labels₀ parents₀ closings₀ slack track₀ pairing owner prices discounts labels parents closings track = length prices₀ - track
+μ-loop sheet reports pairing₀ owner₀ prices₀ discounts₀ labels₀ via₀ closings₀ slack track₀ pairing owner prices discounts labels via closings track = length prices₀ - track
 
 match-all-requires : tie.Need-match-all-requires Inv-loop μ-loop
 match-all-requires c κs = c .before .before .before .before .before .before .before .before .before .before .before .before .before .before .before .before .before .pre
 
 loop-holds : tie.Need-loop-holds Inv-loop μ-loop
-loop-holds c = (good-len _ _ _ _ _ _ _ (c .before .before .before .before .before .before .before .before .before .before .before .before .before .before .before .before .match-all .ensures), (search needs, (below-none _, (omega (arith, c .before .before .before .before .before .before .before .labels .given, c .before .before .before .before .before .before .before .before .before .before .before .before .before .before .before .before .before .before .before .before .before .before .before .before .before .before .before .before .before .before .before .before .before .before .pre .rooms .labels-long), (omega (arith, c .before .before .before .before .before .parents .given, c .before .before .before .before .before .before .before .before .before .before .before .before .before .before .before .before .before .before .before .before .before .before .before .before .before .before .before .before .before .before .before .before .before .before .pre .rooms .parents-long), omega (arith, c .before .before .before .closings .given, c .before .before .before .before .before .before .before .before .before .before .before .before .before .before .before .before .before .before .before .before .before .before .before .before .before .before .before .before .before .before .before .before .before .before .pre .rooms .closings-long))))))
+loop-holds c = (good-len _ _ _ _ _ _ _ (c .before .before .before .before .before .before .before .before .before .before .before .before .before .before .before .before .match-all .ensures), (search needs, (below-none _, (omega (arith, c .before .before .before .before .before .before .before .labels .given, c .before .before .before .before .before .before .before .before .before .before .before .before .before .before .before .before .before .before .before .before .before .before .before .before .before .before .before .before .before .before .before .before .before .before .pre .rooms .labels-long), (omega (arith, c .before .before .before .before .before .via .given, c .before .before .before .before .before .before .before .before .before .before .before .before .before .before .before .before .before .before .before .before .before .before .before .before .before .before .before .before .before .before .before .before .before .before .pre .rooms .via-long), omega (arith, c .before .before .before .closings .given, c .before .before .before .before .before .before .before .before .before .before .before .before .before .before .before .before .before .before .before .before .before .before .before .before .before .before .before .before .before .before .before .before .before .before .pre .rooms .closings-long))))))
 
 cast-visit : tie.Need-cast-visit Inv-loop μ-loop
 cast-visit c =
@@ -30,7 +30,7 @@ visit-requires : tie.Need-visit-requires Inv-loop μ-loop
 visit-requires c κs =
     let G = c .before .before .before .before .before .before .before .before .loop .inv .0 in
     let v = c .before .before .before .before .before .before .before .before .loop .inv .1 .1 .1 in
-    record { good = good-len _ _ _ _ _ _ _ G; track-in = c .before .before .before .before .before .before .before .loop-test .taken; labels-long = v .0; parents-long = v .1 .0; closings-long = v .1 .1 }
+    record { good = good-len _ _ _ _ _ _ _ G; track-in = c .before .before .before .before .before .before .before .loop-test .taken; labels-long = v .0; via-long = v .1 .0; closings-long = v .1 .1 }
 
 add-track : tie.Need-add-track Inv-loop μ-loop
 add-track c = search needs
@@ -65,7 +65,7 @@ same-length-5 : tie.Need-same-length-5 Inv-loop μ-loop
 same-length-5 c = omega (arith, c .before .loop .inv .1 .1 .1 .0, c .before .before .before .before .before .before .before .before .before .before .before .before .before .before .before .before .before .before .before .before .before .before .before .before .before .before .before .before .before .before .before .before .before .before .before .before .pre .rooms .labels-long)
 
 same-length-6 : tie.Need-same-length-6 Inv-loop μ-loop
-same-length-6 c = omega (arith, c .before .loop .inv .1 .1 .1 .1 .0, c .before .before .before .before .before .before .before .before .before .before .before .before .before .before .before .before .before .before .before .before .before .before .before .before .before .before .before .before .before .before .before .before .before .before .before .before .pre .rooms .parents-long)
+same-length-6 c = omega (arith, c .before .loop .inv .1 .1 .1 .1 .0, c .before .before .before .before .before .before .before .before .before .before .before .before .before .before .before .before .before .before .before .before .before .before .before .before .before .before .before .before .before .before .before .before .before .before .before .before .pre .rooms .via-long)
 
 same-length-7 : tie.Need-same-length-7 Inv-loop μ-loop
 same-length-7 c = omega (arith, c .before .loop .inv .1 .1 .1 .1 .1, c .before .before .before .before .before .before .before .before .before .before .before .before .before .before .before .before .before .before .before .before .before .before .before .before .before .before .before .before .before .before .before .before .before .before .before .before .pre .rooms .closings-long)

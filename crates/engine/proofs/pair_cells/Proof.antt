@@ -17,8 +17,8 @@ array-borrow-prefix-labels c = search needs
 slice-aggregate-assign-2 : tie.Need-slice-aggregate-assign-2
 slice-aggregate-assign-2 c = sym (length-take-le _ _ (c .before .before .before .before .before .before .before .before .before .pre .reports-few))
 
-array-borrow-prefix-parents : tie.Need-array-borrow-prefix-parents
-array-borrow-prefix-parents c = search needs
+array-borrow-prefix-via : tie.Need-array-borrow-prefix-via
+array-borrow-prefix-via c = search needs
 
 slice-aggregate-assign-3 : tie.Need-slice-aggregate-assign-3
 slice-aggregate-assign-3 c = sym (length-take-le _ _ (c .before .before .before .before .before .before .before .before .before .before .pre .reports-few))
@@ -40,7 +40,7 @@ assign-requires c κs =
     let T = c .before .before .before .before .before .before .before .before .before .before .before .before .pre in
     record {
       shape = record { cells-long = T .cells-long; pairing-long = T .pairing-long; owner-long = length-take-le _ _ (T .reports-few); prices-long = refl; discounts-long = T .discounts-long; tracks-few = T .tracks-few; reports-few = T .reports-few; cells-good = T .cells-good };
-      rooms = record { labels-long = length-take-le _ _ (T .reports-few); parents-long = length-take-le _ _ (T .reports-few); closings-long = length-take-le _ _ (T .reports-few) };
+      rooms = record { labels-long = length-take-le _ _ (T .reports-few); via-long = length-take-le _ _ (T .reports-few); closings-long = length-take-le _ _ (T .reports-few) };
       slack-long = length-take-le _ _ (T .reports-few);
     }
 
@@ -66,7 +66,7 @@ pair-cells-spec =
     slice-aggregate-assign
     array-borrow-prefix-labels
     slice-aggregate-assign-2
-    array-borrow-prefix-parents
+    array-borrow-prefix-via
     slice-aggregate-assign-3
     array-borrow-prefix-closings
     slice-aggregate-assign-4

@@ -12,13 +12,13 @@ use Rattle.passes.proofs.relax.Statement.{statement}
 use Rattle.passes.proofs.relax.Tie as tie
 
 abbrev Inv-loop : tie.InvT-loop
-Inv-loop c w d u i labels₀ parents₀ j₀ labels parents j = Going c w d u i labels₀ parents₀ j labels parents
+Inv-loop c w d u i labels₀ via₀ j₀ labels via j = Going c w d u i labels₀ via₀ j labels via
 
 abbrev μ-loop : tie.MeasureT-loop
-μ-loop c w d u i labels₀ parents₀ j₀ labels parents j = length labels₀ - j
+μ-loop c w d u i labels₀ via₀ j₀ labels via j = length labels₀ - j
 
 loop-holds : tie.Need-loop-holds Inv-loop μ-loop
-loop-holds c = record { in-range = search needs; labels-long = refl; parents-long = c .before .before .before .before .pre .parents-long; steps = below-none _; rest-d = λ k h. refl; rest-p = λ k h. refl }
+loop-holds c = record { in-range = search needs; labels-long = refl; via-long = c .before .before .before .before .pre .via-long; steps = below-none _; rest-d = λ k h. refl; rest-p = λ k h. refl }
 
 mul-offer : tie.Need-mul-offer Inv-loop μ-loop
 mul-offer c = search needs
@@ -75,11 +75,11 @@ pick-requires c κs = let a = c .before .before .before .before .before .before 
     let q : at (a .loop .labels) j < 2 ^ 31 = omega (arith, s .pre .label-in j h) in
     (c .before .before .before .offer .ensures .1 .1, q)
 
-mul-parents : tie.Need-mul-parents Inv-loop μ-loop
-mul-parents c = search needs
+mul-via : tie.Need-mul-via Inv-loop μ-loop
+mul-via c = search needs
 
-slice-write-parents : tie.Need-slice-write-parents Inv-loop μ-loop
-slice-write-parents c = search needs
+slice-write-via : tie.Need-slice-write-via Inv-loop μ-loop
+slice-write-via c = search needs
 
 add-j : tie.Need-add-j Inv-loop μ-loop
 add-j c = search needs
@@ -96,20 +96,20 @@ loop-again c = let a = c .before .before .before .before .before .before .before
     let g : j < length (a .loop .labels) = c .before .before .before .before .before .before .before .loop-test .taken in
     let h : j < length (s .args .labels .now) = omega (arith, v .labels-long) in
     let e : at (a .loop .labels) j ≡ at (s .args .labels .now) j = v .rest-d j (omega arith) in
-    let f : at (a .loop .parents) j ≡ at (s .args .parents .now) j = v .rest-p j (omega arith) in
+    let f : at (a .loop .via) j ≡ at (s .args .via .now) j = v .rest-p j (omega arith) in
     let o = c .before .before .before .before .offer in
     let l = c .before .low in
-    let t : Step (at (s .args .cells .now) j) (at (s .args .discounts .now) j) (s .args .label) (s .args .price) (s .args .track) (at (a .loop .labels) j) (at (a .loop .parents) j) (l .result) (c .pick .result) =
+    let t : Step (at (s .args .cells .now) j) (at (s .args .discounts .now) j) (s .args .label) (s .args .price) (s .args .track) (at (a .loop .labels) j) (at (a .loop .via) j) (l .result) (c .pick .result) =
     step _ _ _ _ _ _ _ (o .result) _ _ (o .ensures .0) (o .ensures .1 .0) (omega (arith, p .label-in j h, e))
     (l .ensures .0) (l .ensures .1 .0) (l .ensures .1 .1 .0) (l .ensures .1 .1 .1) (c .pick .ensures .0) (c .pick .ensures .1) in
     record {
       in-range = omega arith;
       labels-long = simp length-set (v .labels-long);
-      parents-long = simp length-set (v .parents-long);
-      steps = upd2 (λ (k x y : ℕ). Step (at (s .args .cells .now) k) (at (s .args .discounts .now) k) (s .args .label) (s .args .price) (s .args .track) (at (s .args .labels .now) k) (at (s .args .parents .now) k) x y)
-          (a .loop .labels) (a .loop .parents) j _ _ g (omega (arith, v .parents-long, v .labels-long)) (v .steps) (rw (e, f) at t);
+      via-long = simp length-set (v .via-long);
+      steps = upd2 (λ (k x y : ℕ). Step (at (s .args .cells .now) k) (at (s .args .discounts .now) k) (s .args .label) (s .args .price) (s .args .track) (at (s .args .labels .now) k) (at (s .args .via .now) k) x y)
+          (a .loop .labels) (a .loop .via) j _ _ g (omega (arith, v .via-long, v .labels-long)) (v .steps) (rw (e, f) at t);
       rest-d = keep (a .loop .labels) (s .args .labels .now) j _ (v .rest-d);
-      rest-p = keep (a .loop .parents) (s .args .parents .now) j _ (v .rest-p);
+      rest-p = keep (a .loop .via) (s .args .via .now) j _ (v .rest-p);
     }
 
 same-length : tie.Need-same-length Inv-loop μ-loop
@@ -119,7 +119,7 @@ same-length-2 : tie.Need-same-length-2 Inv-loop μ-loop
 same-length-2 c = search needs
 
 returns : tie.Need-returns Inv-loop μ-loop
-returns c = record { labels-long = c .before .loop .inv .labels-long; parents-long = c .before .loop .inv .parents-long; steps = λ k h. c .before .loop .inv .steps k (omega (arith, c .before .loop .inv .labels-long)) }
+returns c = record { labels-long = c .before .loop .inv .labels-long; via-long = c .before .loop .inv .via-long; steps = λ k h. c .before .loop .inv .steps k (omega (arith, c .before .loop .inv .labels-long)) }
 
 pub relax-spec : {M : Type 1} → statement M
 relax-spec =
@@ -141,8 +141,8 @@ relax-spec =
     mul-labels
     slice-write-labels
     pick-requires
-    mul-parents
-    slice-write-parents
+    mul-via
+    slice-write-via
     add-j
     loop-less
     loop-again

@@ -9,10 +9,10 @@ use Rattle.paths.proofs.flip.Statement.{statement}
 use Rattle.paths.proofs.flip.Tie as tie
 
 abbrev Inv-loop : tie.InvT-loop
-Inv-loop sheet m prices discounts track parents closings start pairing₀ owner₀ h₀ pairing owner h = Flips sheet m (length prices) prices discounts track parents closings pairing₀ owner₀ pairing owner h
+Inv-loop sheet m prices discounts track via closings start pairing₀ owner₀ h₀ pairing owner h = Flips sheet m (length prices) prices discounts track via closings pairing₀ owner₀ pairing owner h
 
 abbrev μ-loop : tie.MeasureT-loop
-μ-loop sheet m prices discounts track parents closings start pairing₀ owner₀ h₀ pairing owner h = at closings h
+μ-loop sheet m prices discounts track via closings start pairing₀ owner₀ h₀ pairing owner h = at closings h
 
 loop-holds : tie.Need-loop-holds Inv-loop μ-loop
 loop-holds c = search needs
@@ -25,14 +25,14 @@ mul-i c = let s = c .before .before .before .before .before .before .before .bef
     let a = c .before .before .loop in
     let F = a .inv in
     let hn = c .before .loop-test .taken in
-    omega (arith, holed _ _ _ _ _ _ _ _ _ _ _ _ _ F hn .hole-in, c .idx .ensures, F .parents-long, F .shape .reports-few)
+    omega (arith, holed _ _ _ _ _ _ _ _ _ _ _ _ _ F hn .hole-in, c .idx .ensures, F .via-long, F .shape .reports-few)
 
 shared-slice-read-i : tie.Need-shared-slice-read-i Inv-loop μ-loop
 shared-slice-read-i c = let s = c .before .before .before .before .before .before .before .before .before .before .before in
     let a = c .before .before .before .loop in
     let F = a .inv in
     let hn = c .before .before .loop-test .taken in
-    omega (arith, holed _ _ _ _ _ _ _ _ _ _ _ _ _ F hn .hole-in, c .before .idx .ensures, F .parents-long, F .shape .reports-few)
+    omega (arith, holed _ _ _ _ _ _ _ _ _ _ _ _ _ F hn .hole-in, c .before .idx .ensures, F .via-long, F .shape .reports-few)
 
 idx-requires-2 : tie.Need-idx-requires-2 Inv-loop μ-loop
 idx-requires-2 c κs = search needs

@@ -13,10 +13,10 @@ use Rattle.paths.proofs.search.Statement.{statement}
 use Rattle.paths.proofs.search.Tie as tie
 
 abbrev Inv-loop : tie.InvT-loop
-Inv-loop sheet reports track pairing owner prices discounts labels₀ parents₀ closings₀ leaving₀ leaver₀ k₀ lo₀ j₀ labels parents closings leaving leaver k lo j = Tree sheet reports (length prices) pairing owner prices discounts track leaving leaver k labels parents closings × (Nearest labels closings leaving j × Front lo reports closings)
+Inv-loop sheet reports track pairing owner prices discounts labels₀ via₀ closings₀ leaving₀ leaver₀ k₀ lo₀ j₀ labels via closings leaving leaver k lo j = Tree sheet reports (length prices) pairing owner prices discounts track leaving leaver k labels via closings × (Nearest labels closings leaving j × Front lo reports closings)
 
 abbrev μ-loop : tie.MeasureT-loop
-μ-loop sheet reports track pairing owner prices discounts labels₀ parents₀ closings₀ leaving₀ leaver₀ k₀ lo₀ j₀ labels parents closings leaving leaver k lo j = zeros closings
+μ-loop sheet reports track pairing owner prices discounts labels₀ via₀ closings₀ leaving₀ leaver₀ k₀ lo₀ j₀ labels via closings leaving leaver k lo j = zeros closings
 
 fill-requires : tie.Need-fill-requires Inv-loop μ-loop
 fill-requires c κs = search needs

@@ -9,10 +9,10 @@ use Rattle.queue.proofs.first_turns.Statement.{statement}
 use Rattle.queue.proofs.first_turns.Tie as tie
 
 abbrev Inv-loop : tie.InvT-loop
-Inv-loop sheet reports pairing₀ owner₀ prices₀ discounts₀ labels₀ parents₀ closings₀ k₀ pairing owner prices discounts labels parents closings k = Good sheet reports (length prices₀) pairing owner prices discounts × (Rooms reports labels parents closings × (k ≤ length prices₀))
+Inv-loop sheet reports pairing₀ owner₀ prices₀ discounts₀ labels₀ via₀ closings₀ k₀ pairing owner prices discounts labels via closings k = Good sheet reports (length prices₀) pairing owner prices discounts × (Rooms reports labels via closings × (k ≤ length prices₀))
 
 abbrev μ-loop : tie.MeasureT-loop
-μ-loop sheet reports pairing₀ owner₀ prices₀ discounts₀ labels₀ parents₀ closings₀ k₀ pairing owner prices discounts labels parents closings k = length prices₀ - k
+μ-loop sheet reports pairing₀ owner₀ prices₀ discounts₀ labels₀ via₀ closings₀ k₀ pairing owner prices discounts labels via closings k = length prices₀ - k
 
 loop-holds : tie.Need-loop-holds Inv-loop μ-loop
 loop-holds c = (c .before .before .before .before .before .before .before .before .pre .0, (c .before .before .before .before .before .before .before .before .pre .1, search needs))
@@ -63,7 +63,7 @@ loop-less c = omega (arith, c .next-round .ensures .0, c .before .before .before
 loop-again : tie.Need-loop-again Inv-loop μ-loop
 loop-again c =
     let G = c .before .before .before .before .before .before .before .before .before .before .before .before .before .before .before .before .before .before .before .before .before .before .before .before .before .before .before .before .loop .inv .0 in
-    (good-at _ _ _ _ _ _ _ _ (G .shape .prices-long) (c .before .before .before .before .before .before .before .before .before .before .before .before .before .before .before .insert .ensures .0 .good), (record { labels-long = search needs; parents-long = omega (arith, c .before .before .before .before .parents .given, c .before .before .before .before .before .before .before .before .before .before .before .before .before .before .before .before .before .before .before .before .before .before .before .before .before .before .before .before .loop .inv .1 .0 .parents-long); closings-long = omega (arith, c .before .before .closings .given, c .before .before .before .before .before .before .before .before .before .before .before .before .before .before .before .before .before .before .before .before .before .before .before .before .before .before .before .before .loop .inv .1 .0 .closings-long) }, omega (arith, c .next-round .ensures .1, G .shape .prices-long, c .before .before .before .before .before .before .before .before .before .before .before .before .before .before .before .insert .ensures .0 .good .shape .prices-long)))
+    (good-at _ _ _ _ _ _ _ _ (G .shape .prices-long) (c .before .before .before .before .before .before .before .before .before .before .before .before .before .before .before .insert .ensures .0 .good), (record { labels-long = search needs; via-long = omega (arith, c .before .before .before .before .via .given, c .before .before .before .before .before .before .before .before .before .before .before .before .before .before .before .before .before .before .before .before .before .before .before .before .before .before .before .before .loop .inv .1 .0 .via-long); closings-long = omega (arith, c .before .before .closings .given, c .before .before .before .before .before .before .before .before .before .before .before .before .before .before .before .before .before .before .before .before .before .before .before .before .before .before .before .before .loop .inv .1 .0 .closings-long) }, omega (arith, c .next-round .ensures .1, G .shape .prices-long, c .before .before .before .before .before .before .before .before .before .before .before .before .before .before .before .insert .ensures .0 .good .shape .prices-long)))
 
 same-length-8 : tie.Need-same-length-8 Inv-loop μ-loop
 same-length-8 c = search needs

@@ -9,10 +9,10 @@ use Rattle.queue.proofs.lifted_turns.Statement.{statement}
 use Rattle.queue.proofs.lifted_turns.Tie as tie
 
 abbrev Inv-loop : tie.InvT-loop
-Inv-loop sheet reports pairing₀ owner₀ prices₀ discounts₀ labels₀ parents₀ closings₀ slack₀ k₀ pairing owner prices discounts labels parents closings slack k = Lifting sheet reports (length prices₀) pairing owner prices discounts slack × (Rooms reports labels parents closings × (k ≤ length prices₀))
+Inv-loop sheet reports pairing₀ owner₀ prices₀ discounts₀ labels₀ via₀ closings₀ slack₀ k₀ pairing owner prices discounts labels via closings slack k = Lifting sheet reports (length prices₀) pairing owner prices discounts slack × (Rooms reports labels via closings × (k ≤ length prices₀))
 
 abbrev μ-loop : tie.MeasureT-loop
-μ-loop sheet reports pairing₀ owner₀ prices₀ discounts₀ labels₀ parents₀ closings₀ slack₀ k₀ pairing owner prices discounts labels parents closings slack k = length prices₀ - k
+μ-loop sheet reports pairing₀ owner₀ prices₀ discounts₀ labels₀ via₀ closings₀ slack₀ k₀ pairing owner prices discounts labels via closings slack k = length prices₀ - k
 
 loop-holds : tie.Need-loop-holds Inv-loop μ-loop
 loop-holds c = (c .before .before .before .before .before .before .before .before .before .pre .0, (c .before .before .before .before .before .before .before .before .before .pre .1, search needs))
@@ -66,7 +66,7 @@ loop-less c = search needs
 loop-again : tie.Need-loop-again Inv-loop μ-loop
 loop-again c =
     let G = c .before .before .before .before .before .before .before .before .before .before .before .before .before .before .before .before .before .before .before .before .before .before .before .before .before .before .before .before .before .before .loop .inv .0 .good in
-    (lifting-at _ _ _ _ _ _ _ _ _ (G .shape .prices-long) (c .before .before .before .before .before .before .before .before .before .before .before .before .before .before .before .before .lifted-turn .ensures), (record { labels-long = search needs; parents-long = search needs; closings-long = search needs }, omega (arith, G .shape .prices-long, c .before .before .before .before .before .before .before .before .before .before .before .before .before .before .before .before .before .before .before .before .before .before .before .before .before .before .before .before .before .loop-test .taken)))
+    (lifting-at _ _ _ _ _ _ _ _ _ (G .shape .prices-long) (c .before .before .before .before .before .before .before .before .before .before .before .before .before .before .before .before .lifted-turn .ensures), (record { labels-long = search needs; via-long = search needs; closings-long = search needs }, omega (arith, G .shape .prices-long, c .before .before .before .before .before .before .before .before .before .before .before .before .before .before .before .before .before .before .before .before .before .before .before .before .before .before .before .before .before .loop-test .taken)))
 
 same-length-9 : tie.Need-same-length-9 Inv-loop μ-loop
 same-length-9 c = search needs
