@@ -19,7 +19,7 @@ use Rattle.matching.specs.Pairing.{none, HasReport, ValidPairing, Best, sheetOf
 use Rattle.matching.specs.Answer.{sizesOk, cellsOk, pairingOk, sheetRefusal}
 use Rattle.matching.proofs.Facts as facts
 use Rattle.matching.proofs.Theorems.{all-are-served, zero-is-best}
-use Rattle.engine.specs.declared.HasReport as answers
+use Rattle.engine.specs.declared.Paired as answers
 use Rattle.engine.specs.Call.{PairsSheet}
 use Rattle.intake.specs.Refusals.{slotBad, reportBad, reportElsewhere, noneOf, dueSlots, demands, numberOf, faultOf, refusalOf}
 use Rattle.scoresheet.specs.Cells.{cellOf, pairCell, rowOf, rowsOf, cellsOf, tracksOf, reportsOf}
@@ -80,7 +80,7 @@ best-keeps-the-glider P b =
     (none-else (P 0) l₀ apart, e₁)
 
 -- What the pairing call writes for the scene, into lists of two, is that pairing.
-pub call-keeps-the-glider : (p′ u′ v′ : List ℕ) (answer : answers.HasReport) → PairsSheet 2 2 cells (none ∷ none ∷ []) (0 ∷ 0 ∷ []) (0 ∷ 0 ∷ []) p′ u′ v′ answer → length p′ ≡ 2 → p′ ≡ kept
+pub call-keeps-the-glider : (p′ u′ v′ : List ℕ) (answer : answers.Paired) → PairsSheet 2 2 cells (none ∷ none ∷ []) (0 ∷ 0 ∷ []) (0 ∷ 0 ∷ []) p′ u′ v′ answer → length p′ ≡ 2 → p′ ≡ kept
 unfolding sheetRefusal sizesOk cellsOk holds each
 call-keeps-the-glider p′ u′ v′ answer s l =
     let b = best-keeps-the-glider (at p′) (zero-is-best 2 2 cells p′ u′ v′ (s .served refl .accepted)) in

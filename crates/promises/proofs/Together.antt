@@ -55,7 +55,7 @@ module _ (i : Input) (rest : List ℕ) where
     }
 
     -- The pairing call never refuses a sector's own sheet where its result lists have room.
-    pub own-sheet-is-not-refused : pairing.refusalOf (tracksOf i) (reportsOf i) (cellsOf i ++ rest) p u v ≡ 0
+    pub own-sheet-is-not-refused : pairing.pairingRefusal (tracksOf i) (reportsOf i) (cellsOf i ++ rest) p u v ≡ 0
     own-sheet-is-not-refused = ready-is-not-refused (tracksOf i) (reportsOf i) (cellsOf i ++ rest) (length p) (length u) (length v) fits in-range
 
 -- ---- what the sheet call gives
@@ -80,7 +80,7 @@ given i sheet n m e = given-by (refusalOf i (cellRoom i sheet)) i sheet n m (λ 
 
 module _ (i : Input) (rest : List ℕ) (r : Ready i) (p u v : List ℕ) (room : RoomToPair i p u v) where
   -- the first entries of what a served call wrote
-  written-is-a-choice : (p′ u′ v′ : List ℕ) → pairing.Served (tracksOf i) (reportsOf i) (cellsOf i ++ rest) p u v p′ u′ v′ → Choice i (firstOf i p′ u′ v′)
+  written-is-a-choice : (p′ u′ v′ : List ℕ) → pairing.SheetPaired (tracksOf i) (reportsOf i) (cellsOf i ++ rest) p u v p′ u′ v′ → Choice i (firstOf i p′ u′ v′)
   written-is-a-choice p′ u′ v′ s = record {
     number-each = length-take-le (tracksOf i) p′ (z .pairing-long);
     price-each = length-take-le (tracksOf i) u′ (z .prices-long);
@@ -106,7 +106,7 @@ module _ (i : Input) (rest : List ℕ) (r : Ready i) (p u v : List ℕ) (room : 
           (λ k h. getD-take (tracksOf i) p′ k 0 h) (λ k h. getD-take (tracksOf i) u′ k 0 h) (λ k h. getD-take (reportsOf i) v′ k 0 h)
 
   -- a choice, with what lay beyond it
-  choice-may-be-written : (c : Chosen) → Choice i c → pairing.Served (tracksOf i) (reportsOf i) (cellsOf i ++ rest) p u v (c .pairing ++ drop (tracksOf i) p) (c .prices ++ drop (tracksOf i) u) (c .discounts ++ drop (reportsOf i) v)
+  choice-may-be-written : (c : Chosen) → Choice i c → pairing.SheetPaired (tracksOf i) (reportsOf i) (cellsOf i ++ rest) p u v (c .pairing ++ drop (tracksOf i) p) (c .prices ++ drop (tracksOf i) u) (c .discounts ++ drop (reportsOf i) v)
   choice-may-be-written c h = record {
     accepted =
         sym
