@@ -4,9 +4,7 @@ use mathlib.Core.Path.{_≡_, refl, sym, _∙_}
 use mathlib.Core.List.{List, [], _∷_, _++_, append-assoc, append-nil}
 use mathlib.Core.Bool.{Bool, true, false, cond}
 use native.Mathlib.Omega.{arith}
-use borrow.Author.Tests.{ne-eqb}
-use lib.Dec.{eqb, leb, leb·suc-zero, leb·suc-suc}
-use native.Mathlib.Nat.{zero-add, le-of-suc-le-suc, not-suc-le-zero, suc-ne-zero}
+use native.Mathlib.Nat.{zero-add, le-of-suc-le-suc, not-suc-le-zero}
 use native.Mathlib.Numerals.{add-one}
 use lib.ListN.{length, getD, take, drop, set, length-set, length-append, drop-of-length-le}
 use lib.Seq.{drop-cons, length-take-le, take-suc-set, take-set-le}
@@ -81,16 +79,6 @@ module _ {A : Type 0} (p : A → Bool) where
   unfolding firstIndex
   first-nowhere [] d h = refl
   first-nowhere (x ∷ xs) d h = rw (h 0 (omega arith), first-nowhere xs d (λ k l. h (suc k) (omega arith)))
-
-  -- none is counted exactly where none is found
-  pub none-counted : (base : ℕ) (xs : List A) → eqb (length (indicesFrom p base xs)) 0 ≡ leb (length xs) (firstIndex p xs)
-  unfolding indicesFrom firstIndex
-  none-counted base [] = refl
-  none-counted base (x ∷ xs) = go (p x) (none-counted (suc base) xs)
-    where
-      go : (b : Bool) → eqb (length (indicesFrom p (suc base) xs)) 0 ≡ leb (length xs) (firstIndex p xs) → eqb (length (cond b (base ∷ indicesFrom p (suc base) xs) (indicesFrom p (suc base) xs))) 0 ≡ leb (suc (length xs)) (cond b 0 (suc (firstIndex p xs)))
-      go true h = ne-eqb (suc (length (indicesFrom p (suc base) xs))) 0 (suc-ne-zero _) ∙ sym (leb·suc-zero (length xs))
-      go false h = h ∙ sym (leb·suc-suc (length xs) (firstIndex p xs))
 
   -- all places of the kind
   pub indices-skip : (xs : List A) (i : ℕ) (d : A) → i < length xs → p (getD xs i d) ≡ false → indicesFrom p i (drop i xs) ≡ indicesFrom p (i + 1) (drop (i + 1) xs)

@@ -64,7 +64,7 @@ slotPrices i prices = outs dueRank (slotPrice prices) (i .table) 0
 
 -- ---- the counts of due tracks without a pair
 
--- a due track that is left out counts 1 where it is kept, or where it is dropped
+-- a due track that is left out counts 1 where it coasts, or where it is dropped
 unfoldable pub coastedOne : Unpaired → ℕ
 coastedOne (Coasts t) = 1
 coastedOne Dropped = 0
