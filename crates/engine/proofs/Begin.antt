@@ -38,25 +38,25 @@ module _ (cells : List ℕ) (m n track : ℕ) (pairing owner prices discounts : 
   pub priced : Good cells m n pairing owner prices1 discounts
   priced = record {
     shape = record { cells-long = G .shape .cells-long; pairing-long = G .shape .pairing-long; owner-long = G .shape .owner-long; prices-long = simp length-set (G .shape .prices-long); discounts-long = G .shape .discounts-long; tracks-few = G .shape .tracks-few; reports-few = G .shape .reports-few; cells-good = G .shape .cells-good };
-    P = record {
-      fair = λ i j h g a. ⊎-elim (λ q. rw q (omega (arith, u1-r, vc j g))) (λ d. omega (arith, u1-o i d, G .P .fair i j h g a)) (same-or i track);
-      price-in = λ i h. ⊎-elim (λ q. rw q (omega (arith, u1-r))) (λ d. omega (arith, u1-o i d, G .P .price-in i h)) (same-or i track);
-      discount-in = G .P .discount-in;
+    numbers = record {
+      fair = λ i j h g a. ⊎-elim (λ q. rw q (omega (arith, u1-r, vc j g))) (λ d. omega (arith, u1-o i d, G .numbers .fair i j h g a)) (same-or i track);
+      price-in = λ i h. ⊎-elim (λ q. rw q (omega (arith, u1-r))) (λ d. omega (arith, u1-o i d, G .numbers .price-in i h)) (same-or i track);
+      discount-in = G .numbers .discount-in;
     };
-    M = record {
-      owned = λ j h d. ⊎-elim inl (λ o. inr (own1 j (at owner j) h o)) (G .M .owned j h d);
-      paired = G .M .paired;
+    matched = record {
+      owned = λ j h d. ⊎-elim inl (λ o. inr (own1 j (at owner j) h o)) (G .matched .owned j h d);
+      paired = G .matched .paired;
     };
   }
 
   module _ (j : ℕ) (jm : j < m) (free : at owner j ≡ none) (low : v < leftOut) (eq : cell cells m track j ≡ v) where
     w0 : at discounts j ≡ 0
-    w0 = ⊎-elim (λ a. a .1) (λ o. absurd (omega (arith, o .there, G .shape .tracks-few))) (G .M .owned j jm (λ e. omega (arith, G .shape .reports-few)))
+    w0 = ⊎-elim (λ a. a .1) (λ o. absurd (omega (arith, o .there, G .shape .tracks-few))) (G .matched .owned j jm (λ e. omega (arith, G .shape .reports-few)))
 
     hole : Match cells m n pairing owner prices1 discounts j
     hole = record {
-      owned = λ k h d. priced .M .owned k h (λ e. omega (arith, G .shape .reports-few));
-      paired = λ i h. ⊎-elim inl (λ a. inr (a .0, ((λ e. omega (arith, sym (a .1 .1) ∙ ap (at owner) e ∙ free, G .shape .tracks-few)), a .1 .1))) (G .M .paired i h);
+      owned = λ k h d. priced .matched .owned k h (λ e. omega (arith, G .shape .reports-few));
+      paired = λ i h. ⊎-elim inl (λ a. inr (a .0, ((λ e. omega (arith, sym (a .1 .1) ∙ ap (at owner) e ∙ free, G .shape .tracks-few)), a .1 .1))) (G .matched .paired i h);
     }
 
     fits : cell cells m track j < far
@@ -68,8 +68,8 @@ module _ (cells : List ℕ) (m n track : ℕ) (pairing owner prices discounts : 
     pub given : Good cells m n (set pairing track j) (set owner j track) prices1 discounts
     given = record {
       shape = shape' cells m n prices1 discounts pairing owner (priced .shape) j jm hole track rr fits tight;
-      P = priced .P;
-      M = (rw rp at (refit cells m n prices1 discounts pairing owner (priced .shape) j jm hole track rr fits tight));
+      numbers = priced .numbers;
+      matched = (rw rp at (refit cells m n prices1 discounts pairing owner (priced .shape) j jm hole track rr fits tight));
     }
 
 -- the part of the sheet that claim reads
@@ -102,14 +102,14 @@ module _ (cells : List ℕ) (m track : ℕ) (pairing owner prices discounts : Li
 
   pub claimed-price : Claimed cells m n track pairing pairing owner (set prices x v) discounts
   claimed-price = record {
-    good = rw ex (priced cells m n track pairing owner prices discounts (F .good) (F .track-in) (F .rp) v vM vr);
+    good = rw ex (priced cells m n track pairing owner prices discounts (F .good) (F .track-in) (F .unpaired) v vM vr);
     others = λ i d z. z;
   }
 
   pub claimed-pair : (j : ℕ) → j < m → v < leftOut → at (row cells m x) j ≡ v → at owner j ≡ none
       → Claimed cells m n track pairing (set pairing x j) (set owner j track) (set prices x v) discounts
   claimed-pair j h l e f = record {
-    good = rw ex (given cells m n track pairing owner prices discounts (F .good) (F .track-in) (F .rp) v vM vr j h f l (sym (pat j h) ∙ e));
+    good = rw ex (given cells m n track pairing owner prices discounts (F .good) (F .track-in) (F .unpaired) v vM vr j h f l (sym (pat j h) ∙ e));
     others = λ i d z. getD-set-other pairing x i j 0 (λ q. d (q ∙ ex)) ∙ z;
   }
 
@@ -122,9 +122,9 @@ module _ (cells : List ℕ) (m track : ℕ) (pairing owner prices discounts : Li
       let g : h < m = omega (arith, e .0, plen) in
       let q : cell cells m track h ≡ v = sym (pat h g) ∙ e .1 in
       record {
-        good = good-len cells m n pairing owner (set prices x v) discounts (rw ex (priced cells m n track pairing owner prices discounts (F .good) (F .track-in) (F .rp) v vM vr));
+        good = good-len cells m n pairing owner (set prices x v) discounts (rw ex (priced cells m n track pairing owner prices discounts (F .good) (F .track-in) (F .unpaired) v vM vr));
         track-in = omega (arith, len1, F .track-in);
-        rp = F .rp;
+        unpaired = F .unpaired;
         hole-in = g;
         admissible = omega arith;
         tight = omega (arith, ap (at (set prices x v)) (sym ex), getD-set-same prices x v 0 (omega (arith, F .track-in)), F .zero h g);
@@ -150,26 +150,26 @@ module _ (cells : List ℕ) (m track h : ℕ) (pairing owner prices discounts : 
     pairing1 = set pairing o none
 
     own : Own cells m (length prices) pairing prices discounts h o
-    own = ⊎-elim (λ z. absurd (omega (arith, z .0, C .good .shape .tracks-few))) (λ y. y) (C .good .M .owned h (C .hole-in) (λ e. omega (arith, C .hole-in, C .good .shape .reports-few)))
+    own = ⊎-elim (λ z. absurd (omega (arith, z .0, C .good .shape .tracks-few))) (λ y. y) (C .good .matched .owned h (C .hole-in) (λ e. omega (arith, C .hole-in, C .good .shape .reports-few)))
 
     om : at pairing o < m
     om = omega (arith, own .back, C .hole-in)
 
     hole1 : Match cells m (length prices) pairing1 owner prices discounts h
-    hole1 = (rw (own .back) at (vacated cells m (length prices) prices discounts pairing owner (C .good .shape) (C .good .M) o on om))
+    hole1 = (rw (own .back) at (vacated cells m (length prices) prices discounts pairing owner (C .good .shape) (C .good .matched) o on om))
 
     shape-1 : Shape cells m (length prices) pairing1 owner prices discounts
-    shape-1 = shape1 cells m (length prices) prices discounts pairing owner (C .good .shape) (C .good .M) o on om
+    shape-1 = shape1 cells m (length prices) prices discounts pairing owner (C .good .shape) (C .good .matched) o on om
 
     left : (i : ℕ) → at pairing i ≡ none → at pairing1 i ≡ none
-    left i z = stays cells m (length prices) prices discounts pairing owner (C .good .shape) (C .good .M) o on om i (λ q. omega (arith, ap (at pairing) q, om, C .good .shape .reports-few)) ∙ z
+    left i z = stays cells m (length prices) prices discounts pairing owner (C .good .shape) (C .good .matched) o on om i (λ q. omega (arith, ap (at pairing) q, om, C .good .shape .reports-few)) ∙ z
 
     won : Claimed cells m (length prices) track pairing (set pairing1 track h) (set owner h track) prices discounts
     won = record {
       good = record {
         shape = shape' cells m (length prices) prices discounts pairing1 owner shape-1 h (C .hole-in) hole1 track (C .track-in) (C .admissible) (C .tight);
-        P = C .good .P;
-        M = (rw (left track (C .rp)) at (refit cells m (length prices) prices discounts pairing1 owner shape-1 h (C .hole-in) hole1 track (C .track-in) (C .admissible) (C .tight)));
+        numbers = C .good .numbers;
+        matched = (rw (left track (C .unpaired)) at (refit cells m (length prices) prices discounts pairing1 owner shape-1 h (C .hole-in) hole1 track (C .track-in) (C .admissible) (C .tight)));
       };
       others = λ i d z. getD-set-other pairing1 track i h 0 d ∙ left i z;
     }
@@ -181,25 +181,16 @@ module _ (cells : List ℕ) (m track h : ℕ) (pairing owner prices discounts : 
 -- a visit where nothing is to do, and where the track is to be inserted
 module _ (cells : List ℕ) (m track : ℕ) (pairing owner prices discounts labels via closings : List ℕ) (Vs : Visit cells m track pairing owner prices discounts labels via closings) (x : ℕ) (ex : x ≡ track) where
   same : Done m pairing prices track → Inserted cells m (length prices) track pairing prices pairing owner prices discounts
-  same d = record { good = Vs .good; done = λ i h a. a; done-r = d }
+  same d = record { good = Vs .good; done = λ i h a. a; track-done = d }
 
   pub visit-pair : (at pairing x ≡ none → ⊥) → Inserted cells m (length prices) track pairing prices pairing owner prices discounts
-  visit-pair d = same (⊎-elim (λ z. absurd (d (ap (at pairing) ex ∙ z))) (λ z. inl (z .0)) (Vs .good .M .paired track (Vs .track-in)))
+  visit-pair d = same (⊎-elim (λ z. absurd (d (ap (at pairing) ex ∙ z))) (λ z. inl (z .0)) (Vs .good .matched .paired track (Vs .track-in)))
 
   pub visit-left : leftOut ≤ at prices x → Inserted cells m (length prices) track pairing prices pairing owner prices discounts
-  visit-left l = same (inr (omega (arith, ap (at prices) ex, Vs .good .P .price-in track (Vs .track-in))))
+  visit-left l = same (inr (omega (arith, ap (at prices) ex, Vs .good .numbers .price-in track (Vs .track-in))))
 
   pub visit-ready : at pairing x ≡ none → Searchable cells m track pairing owner prices discounts labels via closings
-  visit-ready z = record {
-    shape = Vs .good .shape;
-    P = Vs .good .P;
-    M = Vs .good .M;
-    track-in = Vs .track-in;
-    rp = sym (ap (at pairing) ex) ∙ z;
-    labels-long = Vs .labels-long;
-    via-long = Vs .via-long;
-    closings-long = Vs .closings-long;
-  }
+  visit-ready z = record { good = Vs .good; track-in = Vs .track-in; unpaired = sym (ap (at pairing) ex) ∙ z; rooms = Vs .rooms }
 
 -- all filled
 pub blank : (cells : List ℕ) (m n : ℕ) (pairing owner prices discounts : List ℕ) → Shape cells m n pairing owner prices discounts
@@ -207,6 +198,6 @@ pub blank : (cells : List ℕ) (m n : ℕ) (pairing owner prices discounts : Lis
     → ((i : ℕ) → i < n → at prices i ≡ 0) → ((j : ℕ) → j < m → at discounts j ≡ 0) → Good cells m n pairing owner prices discounts
 blank cells m n pairing owner prices discounts S p o v z = record {
   shape = S;
-  P = record { fair = λ i j h g a. omega (arith, v i h); price-in = λ i h. omega (arith, v i h); discount-in = λ j h. omega (arith, z j h) };
-  M = record { owned = λ j h d. inl (o j h, z j h); paired = λ i h. inl (p i h) };
+  numbers = record { fair = λ i j h g a. omega (arith, v i h); price-in = λ i h. omega (arith, v i h); discount-in = λ j h. omega (arith, z j h) };
+  matched = record { owned = λ j h d. inl (o j h, z j h); paired = λ i h. inl (p i h) };
 }

@@ -29,13 +29,13 @@ module _ {cells : List ℕ} {m n : ℕ} {pairing owner prices discounts : List �
 
   -- a track's report is its own
   mine : (i : ℕ) → i < n → HasReport (at pairing) i → (at pairing i < m) × (at owner (at pairing i) ≡ i)
-  mine i h p = ⊎-elim (λ z. absurd (p z)) (λ z. (z .0, z .1 .1)) (S .good .M .paired i h)
+  mine i h p = ⊎-elim (λ z. absurd (p z)) (λ z. (z .0, z .1 .1)) (S .good .matched .paired i h)
 
   own : (i : ℕ) → i < n → HasReport (at pairing) i → Own cells m n pairing prices discounts (at pairing i) i
   own i h p =
       let o = mine i h p in
       ⊎-elim (λ a. absurd (omega (arith, a .0, o .1, S .good .shape .tracks-few))) (λ x. rw (o .1) at x)
-      (S .good .M .owned (at pairing i) (o .0) (λ e. p e))
+      (S .good .matched .owned (at pairing i) (o .0) (λ e. p e))
 
   valid : ValidPairing sheet (at pairing)
   valid =
@@ -82,7 +82,7 @@ module _ {cells : List ℕ} {m n : ℕ} {pairing owner prices discounts : List �
   back : (k j : ℕ) → k < n → j < m → at owner j ≡ k → at pairing k ≡ j
   back k j h g q =
       ⊎-elim (λ a. absurd (omega (arith, a .0, S .good .shape .tracks-few))) (λ o. sym (ap (at pairing) q) ∙ o .back)
-      (S .good .M .owned j g (λ e. omega (arith, S .good .shape .reports-few)))
+      (S .good .matched .owned j g (λ e. omega (arith, S .good .shape .reports-few)))
 
   only-sum : (k : ℕ) → k < n → Sum m (only k) ≡ part k
   unfolding part only
@@ -107,7 +107,7 @@ module _ {cells : List ℕ} {m n : ℕ} {pairing owner prices discounts : List �
   unfolding upto
   all j g =
       ⊎-elim (λ a. rw (le-ltb (at owner j) n (omega (arith, a .0, S .good .shape .tracks-few))) (sym (a .1)))
-      (λ o. rw (lt-ltb (at owner j) n (o .there)) refl) (S .good .M .owned j g (λ e. omega (arith, S .good .shape .reports-few)))
+      (λ o. rw (lt-ltb (at owner j) n (o .there)) refl) (S .good .matched .owned j g (λ e. omega (arith, S .good .shape .reports-few)))
 
   totals : Sum n (at prices) ≡ total sheet (at pairing) + Sum m (at discounts)
   unfolding total
@@ -122,9 +122,9 @@ module _ {cells : List ℕ} {m n : ℕ} {pairing owner prices discounts : List �
         range = record { tracks-few = S .good .shape .tracks-few; scores = score };
         valid = valid;
         fair = record {
-          price = S .good .P .price-in;
-          discount = S .good .P .discount-in;
-          under = λ i j h g a. S .good .P .fair i j h g (omega (arith, score i j h g a));
+          price = S .good .numbers .price-in;
+          discount = S .good .numbers .discount-in;
+          under = λ i j h g a. S .good .numbers .fair i j h g (omega (arith, score i j h g a));
         };
         totals = totals;
       }

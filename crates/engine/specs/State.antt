@@ -6,21 +6,20 @@ use lib.ListN.{length}
 use Rattle.laws.specs.Lists.{at}
 use Rattle.matching.specs.Pairing.{none, mostTracks, Certificate, sheetOf}
 use Rattle.passes.specs.Cells.{far, IsCell}
-use Rattle.paths.specs.State.{widest, cell, Shape, Good, Done}
-use Rattle.queue.specs.State.{Rooms}
+use Rattle.paths.specs.State.{widest, cell, Shape, Good, Rooms, Done}
 
 -- a track that is in no pair, at the start
 pub record Fresh (cells : List ℕ) (m track : ℕ) (pairing owner prices discounts : List ℕ) : Type 0 where
   pub good : Good cells m (length prices) pairing owner prices discounts
   pub track-in : track < length prices
-  pub rp : at pairing track ≡ none
+  pub unpaired : at pairing track ≡ none
   pub zero : (j : ℕ) → j < m → at discounts j ≡ 0
 
 -- a track that is in no pair, and a report of its price
 pub record Contest (cells : List ℕ) (m track h : ℕ) (pairing owner prices discounts : List ℕ) : Type 0 where
   pub good : Good cells m (length prices) pairing owner prices discounts
   pub track-in : track < length prices
-  pub rp : at pairing track ≡ none
+  pub unpaired : at pairing track ≡ none
   pub hole-in : h < m
   pub admissible : cell cells m track h < far
   pub tight : at prices track ≡ cell cells m track h + at discounts h
@@ -37,9 +36,7 @@ pub record WorkRoom (cells : List ℕ) (m n : ℕ) (pairing owner prices discoun
 pub record Visit (cells : List ℕ) (m track : ℕ) (pairing owner prices discounts labels via closings : List ℕ) : Type 0 where
   pub good : Good cells m (length prices) pairing owner prices discounts
   pub track-in : track < length prices
-  pub labels-long : length labels ≡ m
-  pub via-long : length via ≡ m
-  pub closings-long : length closings ≡ m
+  pub rooms : Rooms m labels via closings
 
 -- the whole answer: fair prices, tight pairs, free reports at 0, and each track paired or at the full price
 pub record Solved (cells : List ℕ) (m n : ℕ) (pairing owner prices discounts : List ℕ) : Type 0 where

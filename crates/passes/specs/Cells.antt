@@ -27,15 +27,15 @@ pub record Step (cell discount d price i od op nd np : ℕ) : Type 0 where
 
 -- what relax asks of its lists
 pub record Fair (cells discounts labels via : List ℕ) (d price : ℕ) : Type 0 where
-  pub lc : length cells ≡ length labels
+  pub cells-long : length cells ≡ length labels
   pub discounts-long : length discounts ≡ length labels
   pub via-long : length via ≡ length labels
   pub cells-good : (k : ℕ) → k < length labels → IsCell (at cells k)
-  pub du : d ≤ leftOut
-  pub uu : price ≤ leftOut
-  pub ww : (k : ℕ) → k < length labels → at discounts k ≤ leftOut
-  pub label-in : (k : ℕ) → k < length labels → at labels k ≤ leftOut
-  pub ok : (k : ℕ) → k < length labels → at cells k < far → price ≤ at cells k + at discounts k
+  pub offer-in : d ≤ leftOut
+  pub price-in : price ≤ leftOut
+  pub discount-in : (k : ℕ) → k < length labels → at discounts k ≤ leftOut
+  pub labels-in : (k : ℕ) → k < length labels → at labels k ≤ leftOut
+  pub fair : (k : ℕ) → k < length labels → at cells k < far → price ≤ at cells k + at discounts k
 
 pub record Relaxed (cells discounts : List ℕ) (d price i : ℕ) (labels via labels' via' : List ℕ) : Type 0 where
   pub labels-long : length labels' ≡ length labels

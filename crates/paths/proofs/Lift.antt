@@ -13,9 +13,9 @@ use Rattle.paths.specs.State.{cell, Shape, Prices, Own, Match, Closed, L
 use Rattle.laws.proofs.Stores.{le-or-lt}
 use Rattle.laws.proofs.Stores.{same-or}
 
-module _ (cells : List ℕ) (m track : ℕ) (pairing owner prices discounts d0 p0 s0 : List ℕ) (R : Searchable cells m track pairing owner prices discounts d0 p0 s0)
-    (D report leaver : ℕ) (labels via closings : List ℕ) (E : Ended cells m (length prices) pairing owner prices discounts track D report leaver labels via closings)
-    (prices1 discounts1 : List ℕ) (RU : RowsUp pairing labels D prices prices1) (CU : ColsUp labels D discounts discounts1) where
+module _ {cells : List ℕ} {m track : ℕ} {pairing owner prices discounts d0 p0 s0 : List ℕ} (R : Searchable cells m track pairing owner prices discounts d0 p0 s0)
+    {D report leaver : ℕ} {labels via closings : List ℕ} (E : Ended cells m (length prices) pairing owner prices discounts track D report leaver labels via closings)
+    {prices1 discounts1 : List ℕ} (RU : RowsUp pairing labels D prices prices1) (CU : ColsUp labels D discounts discounts1) where
   abbrev n : ℕ
   n = length prices
 
@@ -23,7 +23,7 @@ module _ (cells : List ℕ) (m track : ℕ) (pairing owner prices discounts d0 p
   prices2 = set prices1 track (at prices1 track + D)
 
   u1-r : at prices1 track ≡ at prices track
-  u1-r = RU .up track (R .track-in) .1 (omega (arith, R .rp, E .labels-long, R .shape .reports-few))
+  u1-r = RU .up track (R .track-in) .1 (omega (arith, R .unpaired, E .labels-long, R .good .shape .reports-few))
 
   u-r : at prices2 track ≡ at prices track + D
   u-r = getD-set-same prices1 track (at prices1 track + D) 0 (omega (arith, RU .prices-long, R .track-in)) ∙ omega (arith, u1-r)
@@ -32,21 +32,21 @@ module _ (cells : List ℕ) (m track : ℕ) (pairing owner prices discounts d0 p
   u-o i d = getD-set-other prices1 track i (at prices1 track + D) 0 d
 
   not-r : (i : ℕ) → at pairing i < m → i ≡ track → ⊥
-  not-r i h q = omega (arith, ap (at pairing) q, R .rp, R .shape .reports-few)
+  not-r i h q = omega (arith, ap (at pairing) q, R .unpaired, R .good .shape .reports-few)
 
   u-pair : (i : ℕ) → i < n → at pairing i < m → at prices2 i ≡ at prices i + (D - at labels (at pairing i))
   u-pair i h p = u-o i (not-r i p) ∙ RU .up i h .0 (omega (arith, E .labels-long))
 
   u-none : (i : ℕ) → i < n → (i ≡ track → ⊥) → at pairing i ≡ none → at prices2 i ≡ at prices i
-  u-none i h d p = u-o i d ∙ RU .up i h .1 (omega (arith, E .labels-long, R .shape .reports-few))
+  u-none i h d p = u-o i d ∙ RU .up i h .1 (omega (arith, E .labels-long, R .good .shape .reports-few))
 
   w-j : (j : ℕ) → j < m → at discounts1 j ≡ at discounts j + (D - at labels j)
-  w-j j h = CU .up j (omega (arith, R .shape .discounts-long))
+  w-j j h = CU .up j (omega (arith, R .good .shape .discounts-long))
 
   -- a track is the one that is inserted, in a pair, or in none
   three : (G : Type 0) (i : ℕ) → i < n → (i ≡ track → G)
       → ((at pairing i < m) → (at owner (at pairing i) ≡ i) → G) → ((i ≡ track → ⊥) → at pairing i ≡ none → G) → G
-  three G i h f g k = ⊎-elim f (λ d. ⊎-elim (λ z. k d z) (λ z. g (z .0) (z .1 .1)) (R .M .paired i h)) (same-or i track)
+  three G i h f g k = ⊎-elim f (λ d. ⊎-elim (λ z. k d z) (λ z. g (z .0) (z .1 .1)) (R .good .matched .paired i h)) (same-or i track)
 
   -- the closed report of a track whose label is below D
   near-row : (i : ℕ) → (p : at pairing i < m) → at owner (at pairing i) ≡ i → at labels (at pairing i) < D → Closed cells m n pairing prices discounts D labels (at pairing i) i
@@ -55,19 +55,19 @@ module _ (cells : List ℕ) (m track : ℕ) (pairing owner prices discounts d0 p
   feas' : (i j : ℕ) → i < n → j < m → cell cells m i j < far → at prices2 i ≤ cell cells m i j + at discounts1 j
   feas' i j h g a = three (at prices2 i ≤ cell cells m i j + at discounts1 j) i h
       (λ q. rw q (omega (arith, u-r, w-j j g, E .root j g (rw q at a))))
-      (λ p b. ⊎-elim (λ l. omega (arith, u-pair i h p, w-j j g, R .P .fair i j h g a))
+      (λ p b. ⊎-elim (λ l. omega (arith, u-pair i h p, w-j j g, R .good .numbers .fair i j h g a))
       (λ l. omega (arith, u-pair i h p, w-j j g, near-row i p b l .seen j g a)) (le-or-lt D (at labels (at pairing i))))
-      (λ d z. omega (arith, u-none i h d z, w-j j g, R .P .fair i j h g a))
+      (λ d z. omega (arith, u-none i h d z, w-j j g, R .good .numbers .fair i j h g a))
 
   um' : (i : ℕ) → i < n → at prices2 i ≤ leftOut
   um' i h = three (at prices2 i ≤ leftOut) i h
-      (λ q. rw q (omega (arith, u-r, E .dr)))
-      (λ p b. ⊎-elim (λ l. omega (arith, u-pair i h p, R .P .price-in i h))
+      (λ q. rw q (omega (arith, u-r, E .price-in)))
+      (λ p b. ⊎-elim (λ l. omega (arith, u-pair i h p, R .good .numbers .price-in i h))
       (λ l. omega (arith, u-pair i h p, near-row i p b l .leave)) (le-or-lt D (at labels (at pairing i))))
-      (λ d z. omega (arith, u-none i h d z, R .P .price-in i h))
+      (λ d z. omega (arith, u-none i h d z, R .good .numbers .price-in i h))
 
   wm' : (j : ℕ) → j < m → at discounts1 j ≤ leftOut
-  wm' j g = ⊎-elim (λ l. omega (arith, w-j j g, R .P .discount-in j g))
+  wm' j g = ⊎-elim (λ l. omega (arith, w-j j g, R .good .numbers .discount-in j g))
       (λ l. let x = E .near j g l in omega (arith, w-j j g, x .leave, x .own .tight)) (le-or-lt D (at labels j))
 
   pub fair2 : Prices cells m n prices2 discounts1
@@ -84,24 +84,24 @@ module _ (cells : List ℕ) (m track : ℕ) (pairing owner prices discounts d0 p
       }
 
   free' : (j : ℕ) → j < m → at owner j ≡ none → at discounts j ≡ 0 → at discounts1 j ≡ 0
-  free' j g z e = ⊎-elim (λ l. omega (arith, w-j j g)) (λ l. absurd (omega (arith, E .near j g l .own .there, R .shape .tracks-few))) (le-or-lt D (at labels j))
+  free' j g z e = ⊎-elim (λ l. omega (arith, w-j j g)) (λ l. absurd (omega (arith, E .near j g l .own .there, R .good .shape .tracks-few))) (le-or-lt D (at labels j))
 
   pub match2 : Match cells m n pairing owner prices2 discounts1 none
   match2 = record {
-    owned = λ j g d. ⊎-elim (λ a. inl (a .0, free' j g (a .0) (a .1))) (λ o. inr (own' j g (at owner j) o)) (R .M .owned j g d);
-    paired = R .M .paired;
+    owned = λ j g d. ⊎-elim (λ a. inl (a .0, free' j g (a .0) (a .1))) (λ o. inr (own' j g (at owner j) o)) (R .good .matched .owned j g d);
+    paired = R .good .matched .paired;
   }
 
   pub shape2 : Shape cells m n pairing owner prices2 discounts1
   shape2 = record {
-    cells-long = R .shape .cells-long;
-    pairing-long = R .shape .pairing-long;
-    owner-long = R .shape .owner-long;
+    cells-long = R .good .shape .cells-long;
+    pairing-long = R .good .shape .pairing-long;
+    owner-long = R .good .shape .owner-long;
     prices-long = simp length-set (RU .prices-long);
-    discounts-long = CU .discounts-long ∙ R .shape .discounts-long;
-    tracks-few = R .shape .tracks-few;
-    reports-few = R .shape .reports-few;
-    cells-good = R .shape .cells-good;
+    discounts-long = CU .discounts-long ∙ R .good .shape .discounts-long;
+    tracks-few = R .good .shape .tracks-few;
+    reports-few = R .good .shape .reports-few;
+    cells-good = R .good .shape .cells-good;
   }
 
   tight2 : (c : ℕ) → c < m → far ≤ at closings c → (i : ℕ) → Link cells m n pairing prices discounts track labels closings c i → Tight cells m n pairing prices2 discounts1 track closings c i
@@ -114,14 +114,14 @@ module _ (cells : List ℕ) (m track : ℕ) (pairing owner prices discounts d0 p
         (λ a. inr (a .0, (a .1 .0, ⊎-elim (λ z. absurd (omega arith)) (λ b. b) (a .1 .1 .0)))) (x .how);
   }
 
-  pub turned : Finishable cells m n prices2 discounts1 track via closings report leaver pairing owner
-  turned = record {
+  turned-r : Finishable cells m n prices2 discounts1 track via closings report leaver pairing owner
+  turned-r = record {
     shape = shape2;
     via-long = E .via-long;
     closings-long = E .closings-long;
     track-in = R .track-in;
-    rp = R .rp;
-    M = match2;
+    unpaired = R .unpaired;
+    matched = match2;
     chain = λ b. record { step = λ c g s l. tight2 c g s (at via c) (E .links c g s) };
     end = ⊎-elim (λ a. inl (a .0, (a .1 .0, a .1 .1 .0)))
         (λ a. inr (
@@ -133,69 +133,67 @@ module _ (cells : List ℕ) (m track : ℕ) (pairing owner prices discounts d0 p
         (E .end);
   }
 
-  pub turned-at : (x : ℕ) → x ≡ track → Finishable cells m n (set prices1 x (at prices1 x + D)) discounts1 track via closings report leaver pairing owner
-  turned-at x e = rw e turned
-
-  inserted-r : (pairing' owner' : List ℕ) → Settled cells m n prices2 discounts1 track pairing owner pairing' owner' → Inserted cells m n track pairing prices pairing' owner' prices2 discounts1
-  inserted-r pairing' owner' S = record {
-    good = record { shape = S .shape; P = fair2; M = S .M };
-    done = λ i h a. three (Done m pairing' prices2 i) i h (λ q. rw q (S .done-r)) (λ p b. S .done i h p)
-        (λ d z. ⊎-elim (λ p. absurd (omega (arith, R .shape .reports-few))) (λ e. inr (u-none i h d z ∙ e)) a);
-    done-r = S .done-r;
+  inserted-r : {pairing' owner' : List ℕ} → Settled cells m n prices2 discounts1 track pairing owner pairing' owner' → Inserted cells m n track pairing prices pairing' owner' prices2 discounts1
+  inserted-r {pairing'} S = record {
+    good = record { shape = S .shape; numbers = fair2; matched = S .matched };
+    done = λ i h a. three (Done m pairing' prices2 i) i h (λ q. rw q (S .track-done)) (λ p b. S .done i h p)
+        (λ d z. ⊎-elim (λ p. absurd (omega (arith, R .good .shape .reports-few))) (λ e. inr (u-none i h d z ∙ e)) a);
+    track-done = S .track-done;
   }
-
-  pub inserted : (x : ℕ) → x ≡ track → (pairing' owner' : List ℕ) → Settled cells m n (set prices1 x (at prices1 x + D)) discounts1 track pairing owner pairing' owner'
-      → Inserted cells m n track pairing prices pairing' owner' (set prices1 x (at prices1 x + D)) discounts1
-  inserted x e pairing' owner' S = rw e (inserted-r pairing' owner' (rw e at S))
 
   -- what is left of a paired track's way to a free report
   rises : (i j : ℕ) → i < n → j < m → (at pairing i < m) ⊎ (i ≡ track) → at owner j ≡ none → cell cells m i j < far
       → ((at pairing i < m) × (at prices2 i ≡ at prices i)) ⊎ (at prices2 i + (at labels j - D) ≤ cell cells m i j)
   rises i j h g f z a =
-      let w : at discounts j ≡ 0 = ⊎-elim (λ y. y .1) (λ o. absurd (omega (arith, o .there, R .shape .tracks-few))) (R .M .owned j g (λ e. omega (arith, R .shape .reports-few))) in
+      let w : at discounts j ≡ 0 = ⊎-elim (λ y. y .1) (λ o. absurd (omega (arith, o .there, R .good .shape .tracks-few))) (R .good .matched .owned j g (λ e. omega (arith, R .good .shape .reports-few))) in
       let w1 = free' j g z w in
       let q1 = feas' i j h g a in
       ⊎-elim
       (λ p. ⊎-elim (λ l. inl (p, omega (arith, u-pair i h p)))
-      (λ l. let b = ⊎-elim (λ y. absurd (omega (arith, R .shape .reports-few))) (λ y. y .1 .1) (R .M .paired i h) in
+      (λ l. let b = ⊎-elim (λ y. absurd (omega (arith, R .good .shape .reports-few))) (λ y. y .1 .1) (R .good .matched .paired i h) in
       inr (omega (arith, u-pair i h p, near-row i p b l .seen j g a))) (le-or-lt D (at labels (at pairing i))))
       (λ q. inr (omega (arith, ap (at prices2) q, u-r, E .root j g (rw q at a), ap (λ (k : ℕ). cell cells m k j) q)))
       f
 
-  reached-r : (pairing' owner' : List ℕ) → Settled cells m n prices2 discounts1 track pairing owner pairing' owner' → Reached cells m n pairing owner prices labels D pairing' owner' prices2
-  reached-r pairing' owner' S = record {
+  reached-r : {pairing' owner' : List ℕ} → Settled cells m n prices2 discounts1 track pairing owner pairing' owner' → Reached cells m n pairing owner prices labels D pairing' owner' prices2
+  reached-r S = record {
     labels-long = E .labels-long;
-    cap = E .cap;
-    end = omega (arith, E .dr);
+    labels-in = E .labels-in;
+    end = omega (arith, E .price-in);
     free = S .moved .free;
     rise = λ i j h g p z a. rises i j h g (S .moved .from i h p) (S .moved .free j g z) a;
   }
 
-  len2 : (x : ℕ) → length (set prices1 x (at prices1 x + D)) ≡ length prices
-  len2 x = simp length-set (RU .prices-long)
+  -- x is the track, as an index
+  module _ {x : ℕ} (e : x ≡ track) where
+    abbrev prices-x : List ℕ
+    prices-x = set prices1 x (at prices1 x + D)
 
-  pub reached-len : (x : ℕ) → x ≡ track → (pairing' owner' : List ℕ) → Settled cells m (length (set prices1 x (at prices1 x + D))) (set prices1 x (at prices1 x + D)) discounts1 track pairing owner pairing' owner'
-      → Reached cells m n pairing owner prices labels D pairing' owner' (set prices1 x (at prices1 x + D))
-  reached-len x e pairing' owner' S =
-      rw e (reached-r pairing' owner' (rw e at (subst (λ (k : ℕ). Settled cells m k (set prices1 x (at prices1 x + D)) discounts1 track pairing owner pairing' owner') (len2 x) S)))
+    pub u1-small : at prices1 x + D ≤ leftOut
+    u1-small = omega (arith, ap (at prices1) e, u1-r, E .price-in)
 
-  pub u1-small : (x : ℕ) → x ≡ track → at prices1 x + D ≤ leftOut
-  u1-small x e = omega (arith, ap (at prices1) e, u1-r, E .dr)
+    len-x : length prices-x ≡ length prices
+    len-x = simp length-set (RU .prices-long)
 
-  pub turned-len : (x : ℕ) → x ≡ track → Finishable cells m (length (set prices1 x (at prices1 x + D))) (set prices1 x (at prices1 x + D)) discounts1 track via closings report leaver pairing owner
-  turned-len x e = subst (λ (k : ℕ). Finishable cells m k (set prices1 x (at prices1 x + D)) discounts1 track via closings report leaver pairing owner) (sym (len2 x)) (turned-at x e)
+    pub turned : Finishable cells m (length prices-x) prices-x discounts1 track via closings report leaver pairing owner
+    turned = subst (λ (k : ℕ). Finishable cells m k prices-x discounts1 track via closings report leaver pairing owner) (sym len-x) (rw e turned-r)
 
-  pub inserted-len : (x : ℕ) → x ≡ track → (pairing' owner' : List ℕ) → Settled cells m (length (set prices1 x (at prices1 x + D))) (set prices1 x (at prices1 x + D)) discounts1 track pairing owner pairing' owner'
-      → Inserted cells m n track pairing prices pairing' owner' (set prices1 x (at prices1 x + D)) discounts1
-  inserted-len x e pairing' owner' S =
-      inserted x e pairing' owner' (subst (λ (k : ℕ). Settled cells m k (set prices1 x (at prices1 x + D)) discounts1 track pairing owner pairing' owner') (len2 x) S)
+    module _ {pairing' owner' : List ℕ} (S : Settled cells m (length prices-x) prices-x discounts1 track pairing owner pairing' owner') where
+      settled-r : Settled cells m n prices2 discounts1 track pairing owner pairing' owner'
+      settled-r = (rw e at (subst (λ (k : ℕ). Settled cells m k prices-x discounts1 track pairing owner pairing' owner') len-x S))
+
+      pub inserted : Inserted cells m n track pairing prices pairing' owner' prices-x discounts1
+      inserted = rw e (inserted-r settled-r)
+
+      pub reached : Reached cells m n pairing owner prices labels D pairing' owner' prices-x
+      reached = rw e (reached-r settled-r)
 
 -- a report nearer than D is its owner's
-pub paid : (cells : List ℕ) (m track : ℕ) (pairing owner prices discounts d0 p0 s0 : List ℕ) → Searchable cells m track pairing owner prices discounts d0 p0 s0
-    → (D report leaver : ℕ) (labels via closings : List ℕ) → Ended cells m (length prices) pairing owner prices discounts track D report leaver labels via closings → Paid pairing owner labels prices D
-paid cells m track pairing owner prices discounts d0 p0 s0 R D report leaver labels via closings E = record {
-  owner-long = omega (arith, R .shape .owner-long, E .labels-long);
-  small = λ i h. omega (arith, E .dr, R .P .price-in i h);
-  mine = λ i h p. ⊎-elim (λ z. absurd (omega (arith, E .labels-long, R .shape .reports-few))) (λ z. z .1 .1) (R .M .paired i h);
+pub paid : {cells : List ℕ} {m track : ℕ} {pairing owner prices discounts d0 p0 s0 : List ℕ} {D report leaver : ℕ} {labels via closings : List ℕ}
+    → Searchable cells m track pairing owner prices discounts d0 p0 s0 → Ended cells m (length prices) pairing owner prices discounts track D report leaver labels via closings → Paid pairing owner labels prices D
+paid R E = record {
+  owner-long = omega (arith, R .good .shape .owner-long, E .labels-long);
+  small = λ i h. omega (arith, E .price-in, R .good .numbers .price-in i h);
+  mine = λ i h p. ⊎-elim (λ z. absurd (omega (arith, E .labels-long, R .good .shape .reports-few))) (λ z. z .1 .1) (R .good .matched .paired i h);
   near = λ j h l. let K = E .near j (omega (arith, E .labels-long)) l .own in (K .there, K .back);
 }

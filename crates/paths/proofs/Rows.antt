@@ -54,20 +54,20 @@ module _ (cells : List ℕ) (m lo i d : ℕ) (prices discounts labels via : List
 
   fair-i : Fair (row-from cells m i lo) (rest discounts lo) (rest labels lo) (rest via lo) d (at prices i)
   fair-i = record {
-    lc = from-length cells m n i (F .ii) (F .cells-long) lo (F .first-in) ∙ sym ld;
+    cells-long = from-length cells m n i (F .track-in) (F .cells-long) lo (F .first-in) ∙ sym ld;
     discounts-long = rest-length discounts (F .discounts-long) ∙ sym ld;
     via-long = rest-length via (F .via-long) ∙ sym ld;
     cells-good = λ k h.
         let g : k < m - lo = omega (arith, ld) in
-        rw (from-at cells m n i (F .ii) (F .cells-long) lo k g) (F .cells-good (i * m + (lo + k)) (omega (arith, row-end cells m n i (F .ii) (F .cells-long))));
-    du = F .label-in;
-    uu = F .P .price-in i (F .ii);
-    ww = λ k h. let g : k < m - lo = omega (arith, ld) in omega (arith, rest-at discounts (F .discounts-long) k g, F .P .discount-in (lo + k) (omega arith));
-    label-in = λ k h. let g : k < m - lo = omega (arith, ld) in omega (arith, rest-at labels (F .labels-long) k g, F .cap (lo + k) (omega arith));
-    ok = λ k h a.
+        rw (from-at cells m n i (F .track-in) (F .cells-long) lo k g) (F .cells-good (i * m + (lo + k)) (omega (arith, row-end cells m n i (F .track-in) (F .cells-long))));
+    offer-in = F .offer-in;
+    price-in = F .numbers .price-in i (F .track-in);
+    discount-in = λ k h. let g : k < m - lo = omega (arith, ld) in omega (arith, rest-at discounts (F .discounts-long) k g, F .numbers .discount-in (lo + k) (omega arith));
+    labels-in = λ k h. let g : k < m - lo = omega (arith, ld) in omega (arith, rest-at labels (F .labels-long) k g, F .labels-in (lo + k) (omega arith));
+    fair = λ k h a.
         let g : k < m - lo = omega (arith, ld) in
-        let e = from-at cells m n i (F .ii) (F .cells-long) lo k g in
-        omega (arith, rest-at discounts (F .discounts-long) k g, F .P .fair i (lo + k) (F .ii) (omega arith) (omega arith));
+        let e = from-at cells m n i (F .track-in) (F .cells-long) lo k g in
+        omega (arith, rest-at discounts (F .discounts-long) k g, F .numbers .fair i (lo + k) (F .track-in) (omega arith) (omega arith));
   }
     where
       ld : length (rest labels lo) ≡ m - lo
@@ -101,7 +101,7 @@ module _ (cells : List ℕ) (m lo i d : ℕ) (prices discounts labels via : List
       later k g = rw (
         put-in labels D lo (length labels - lo) (omega (arith, F .first-in, F .labels-long)) k (omega (arith, lD)),
         put-in via Q lo (length via - lo) (omega (arith, F .first-in, F .via-long)) k (omega (arith, lQ)),
-        ← from-at cells m n i (F .ii) (F .cells-long) lo k g,
+        ← from-at cells m n i (F .track-in) (F .cells-long) lo k g,
         ← rest-at discounts (F .discounts-long) k g,
         ← rest-at labels (F .labels-long) k g,
         ← rest-at via (F .via-long) k g,
@@ -114,7 +114,7 @@ module _ (cells : List ℕ) (m lo i d : ℕ) (prices discounts labels via : List
           let q = put-before via Q lo (length via - lo) (omega (arith, F .first-in, F .via-long)) e l in
           rw (p, q) (record {
             less = le-refl _;
-            reach = λ a. omega (arith, F .before e l, F .P .fair i e (F .ii) h a);
+            reach = λ a. omega (arith, F .before e l, F .numbers .fair i e (F .track-in) h a);
             why = inl (refl, refl);
           })
 

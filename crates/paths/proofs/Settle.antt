@@ -29,12 +29,12 @@ module _ (cells : List ℕ) (m n : ℕ) (prices discounts : List ℕ) (track : �
       state = inl (record {
         hole-in = at-col .0;
         hole-closed = at-col .1 .1;
-        M = record {
-          owned = λ j h d. T .M .owned j h (λ e. omega (arith, T .shape .reports-few));
-          paired = λ i h. ⊎-elim inl (λ a. inr (a .0, ((λ e. omega (arith, sym (a .1 .1) ∙ ap (at owner) e ∙ at-col .1 .0, T .shape .tracks-few)), a .1 .1))) (T .M .paired i h);
+        matched = record {
+          owned = λ j h d. T .matched .owned j h (λ e. omega (arith, T .shape .reports-few));
+          paired = λ i h. ⊎-elim inl (λ a. inr (a .0, ((λ e. omega (arith, sym (a .1 .1) ∙ ap (at owner) e ∙ at-col .1 .0, T .shape .tracks-few)), a .1 .1))) (T .matched .paired i h);
         };
         chain = T .chain (at closings report);
-        rp = T .rp;
+        unpaired = T .unpaired;
       });
     }
 
@@ -42,9 +42,9 @@ module _ (cells : List ℕ) (m n : ℕ) (prices discounts : List ℕ) (track : �
     settled-col pairing' owner' F = record {
       shape = F .shape;
       moved = F .moved;
-      M = F .whole .M;
+      matched = F .whole .matched;
       done = λ i h l. inl (F .kept i h l);
-      done-r = inl (F .whole .rp);
+      track-done = inl (F .whole .placed);
     }
 
   module _ (cz : report ≡ none) where
@@ -55,9 +55,9 @@ module _ (cells : List ℕ) (m n : ℕ) (prices discounts : List ℕ) (track : �
     settled-r e = record {
       shape = T .shape;
       moved = record { from = λ i h l. inl l; free = λ j h z. z };
-      M = T .M;
+      matched = T .matched;
       done = λ i h l. inl l;
-      done-r = ⊎-elim (λ x. inr (x .1)) (λ x. absurd (omega (arith, x .1 .0, ap (at pairing) e, T .rp, T .shape .reports-few))) at-row;
+      track-done = ⊎-elim (λ x. inr (x .1)) (λ x. absurd (omega (arith, x .1 .0, ap (at pairing) e, T .unpaired, T .shape .reports-few))) at-row;
     }
 
     module _ (rn : leaver ≡ track → ⊥) where
@@ -68,14 +68,14 @@ module _ (cells : List ℕ) (m n : ℕ) (prices discounts : List ℕ) (track : �
       pairing1 = set pairing leaver none
 
       pair1-row : at pairing1 leaver ≡ none
-      pair1-row = gone cells m n prices discounts pairing owner (T .shape) (T .M) leaver (left-out .0) (left-out .1 .0)
+      pair1-row = gone cells m n prices discounts pairing owner (T .shape) (T .matched) leaver (left-out .0) (left-out .1 .0)
 
       pair1-o : (k : ℕ) → (k ≡ leaver → ⊥) → at pairing1 k ≡ at pairing k
-      pair1-o = stays cells m n prices discounts pairing owner (T .shape) (T .M) leaver (left-out .0) (left-out .1 .0)
+      pair1-o = stays cells m n prices discounts pairing owner (T .shape) (T .matched) leaver (left-out .0) (left-out .1 .0)
 
       flips-0 : Flips cells m n prices discounts track via closings pairing1 owner pairing1 owner (at pairing leaver)
       flips-0 = record {
-        shape = shape1 cells m n prices discounts pairing owner (T .shape) (T .M) leaver (left-out .0) (left-out .1 .0);
+        shape = shape1 cells m n prices discounts pairing owner (T .shape) (T .matched) leaver (left-out .0) (left-out .1 .0);
         moved = record { from = λ i h l. inl l; free = λ j h z. z };
         via-long = T .via-long;
         closings-long = T .closings-long;
@@ -84,9 +84,9 @@ module _ (cells : List ℕ) (m n : ℕ) (prices discounts : List ℕ) (track : �
         state = inl (record {
           hole-in = left-out .1 .0;
           hole-closed = left-out .1 .1 .0;
-          M = vacated cells m n prices discounts pairing owner (T .shape) (T .M) leaver (left-out .0) (left-out .1 .0);
+          matched = vacated cells m n prices discounts pairing owner (T .shape) (T .matched) leaver (left-out .0) (left-out .1 .0);
           chain = chain-set cells m n prices discounts pairing track via closings leaver none (at closings (at pairing leaver)) (T .chain (at closings (at pairing leaver))) (omega arith);
-          rp = pair1-o track (λ q. rn (sym q)) ∙ T .rp;
+          unpaired = pair1-o track (λ q. rn (sym q)) ∙ T .unpaired;
         });
       }
 
@@ -102,7 +102,7 @@ module _ (cells : List ℕ) (m n : ℕ) (prices discounts : List ℕ) (track : �
               from = λ i h l. ⊎-elim (λ a. ⊎-elim (λ q. absurd (omega (arith, ap (at pairing1) q, pair1-row, T .shape .reports-few))) (λ d. inl (omega (arith, pair1-o i d))) (same-or i leaver)) inr (G .moved .from i h l);
               free = G .moved .free;
             };
-            M = G .whole .M;
+            matched = G .whole .matched;
             done = λ i h l. ⊎-elim (λ q. inr (ap (at prices) q ∙ left-out .1 .1 .1)) (λ d. inl (G .kept i h (omega (arith, pair1-o i d)))) (same-or i leaver);
-            done-r = inl (G .whole .rp);
+            track-done = inl (G .whole .placed);
           }

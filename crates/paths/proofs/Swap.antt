@@ -137,7 +137,7 @@ module _ (cells : List ℕ) (m n : ℕ) (prices discounts : List ℕ) (track : �
   pairF-i = getD-set-same pairing i h 0 (omega (arith, F .shape .pairing-long, tight-h .there))
 
   match' : Match cells m n pairF (set owner h i) prices discounts (at pairing i)
-  match' = refit cells m n prices discounts pairing owner (F .shape) h (holed .hole-in) (holed .M) i (tight-h .there) (tight-h .admissible) (tight-h .tight)
+  match' = refit cells m n prices discounts pairing owner (F .shape) h (holed .hole-in) (holed .matched) i (tight-h .there) (tight-h .admissible) (tight-h .tight)
 
   kept' : (k : ℕ) → k < n → at pairing0 k < m → at pairF k < m
   kept' k g l = ⊎-elim (λ q. omega (arith, ap (at pairF) q, pairF-i, holed .hole-in)) (λ d. omega (arith, getD-set-other pairing i k h 0 d, F .kept k g l)) (same-or k i)
@@ -152,20 +152,20 @@ module _ (cells : List ℕ) (m n : ℕ) (prices discounts : List ℕ) (track : �
 
   state' : Holed cells m n prices discounts track via closings pairF (set owner h i) (at pairing i) ⊎ ((at pairing i ≡ none) × Unbroken cells m n prices discounts track pairF (set owner h i))
   state' = ⊎-elim
-      (λ q. let z : at pairing i ≡ none = ap (at pairing) q ∙ holed .rp in
-      inr (z, record { M = (rw z at match'); rp = omega (arith, ap (at pairF) q, pairF-i, holed .hole-in) }))
+      (λ q. let z : at pairing i ≡ none = ap (at pairing) q ∙ holed .unpaired in
+      inr (z, record { matched = (rw z at match'); placed = omega (arith, ap (at pairF) q, pairF-i, holed .hole-in) }))
       (λ a. inl (record {
         hole-in = a .0;
         hole-closed = a .1 .0;
-        M = match';
+        matched = match';
         chain = chain-set cells m n prices discounts pairing track via closings i h (at closings h) (holed .chain) (omega (arith, a .1 .1));
-        rp = getD-set-other pairing i track h 0 (λ q. omega (arith, ap (at pairing) q, holed .rp, a .0, F .shape .reports-few)) ∙ holed .rp;
+        unpaired = getD-set-other pairing i track h 0 (λ q. omega (arith, ap (at pairing) q, holed .unpaired, a .0, F .shape .reports-few)) ∙ holed .unpaired;
       }))
       (tight-h .next)
 
   flip-h : Flips cells m n prices discounts track via closings pairing0 owner0 pairF (set owner h i) (at pairing i)
   flip-h = record {
-    shape = shape' cells m n prices discounts pairing owner (F .shape) h (holed .hole-in) (holed .M) i (tight-h .there) (tight-h .admissible) (tight-h .tight);
+    shape = shape' cells m n prices discounts pairing owner (F .shape) h (holed .hole-in) (holed .matched) i (tight-h .there) (tight-h .admissible) (tight-h .tight);
     via-long = F .via-long;
     closings-long = F .closings-long;
     track-in = F .track-in;
@@ -179,7 +179,7 @@ module _ (cells : List ℕ) (m n : ℕ) (prices discounts : List ℕ) (track : �
 
   fall-h : at closings (at pairing i) < at closings h
   fall-h = ⊎-elim
-      (λ q. let z : at pairing i ≡ none = ap (at pairing) q ∙ holed .rp in
+      (λ q. let z : at pairing i ≡ none = ap (at pairing) q ∙ holed .unpaired in
       omega (arith, holed .hole-closed, ap (at closings) z, List·getD-eq-default closings 0 {n = none} (omega (arith, F .closings-long, F .shape .reports-few))))
       (λ a. a .1 .1) (tight-h .next)
 

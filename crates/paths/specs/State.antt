@@ -4,10 +4,12 @@ use Prim.Native.Nat.{ℕ, zero, suc, _+_, _-_, _*_, _≤_, _<_}
 use mathlib.Core.Path.{_≡_}
 use mathlib.Core.List.{List, [], _∷_}
 use mathlib.Core.Logic.{_⊎_}
+use mathlib.Core.Bool.{Bool, not, _&&_}
 use lib.ListN.{length}
+use lib.Dec.{ltb, eqb}
 use Rattle.laws.specs.Lists.{at}
 use Rattle.matching.specs.Pairing.{none, leftOut, mostTracks}
-use Rattle.passes.specs.Cells.{far, Step, IsCell}
+use Rattle.passes.specs.Cells.{far, Step, IsCell, Nearest}
 
 -- the engine itself takes this many reports, whatever the public call takes
 abbrev pub widest : ℕ
@@ -55,6 +57,12 @@ pub record Match (cells : List ℕ) (m n : ℕ) (pairing owner prices discounts 
   pub owned : (j : ℕ) → j < m → (j ≡ h → ⊥) → ((at owner j ≡ none) × (at discounts j ≡ 0)) ⊎ Own cells m n pairing prices discounts j (at owner j)
   pub paired : (i : ℕ) → i < n → (at pairing i ≡ none) ⊎ ((at pairing i < m) × ((at pairing i ≡ h → ⊥) × (at owner (at pairing i) ≡ i)))
 
+-- fair prices, and a pairing without a hole
+pub record Good (cells : List ℕ) (m n : ℕ) (pairing owner prices discounts : List ℕ) : Type 0 where
+  pub shape : Shape cells m n pairing owner prices discounts
+  pub numbers : Prices cells m n prices discounts
+  pub matched : Match cells m n pairing owner prices discounts none
+
 -- a closed report c of track i: the search has gone through it
 pub record Closed (cells : List ℕ) (m n : ℕ) (pairing prices discounts : List ℕ) (leaving : ℕ) (labels : List ℕ) (c i : ℕ) : Type 0 where
   pub own : Own cells m n pairing prices discounts c i
@@ -75,8 +83,8 @@ pub record Tree (cells : List ℕ) (m n : ℕ) (pairing owner prices discounts :
   pub labels-long : length labels ≡ m
   pub via-long : length via ≡ m
   pub closings-long : length closings ≡ m
-  pub cap : (j : ℕ) → j < m → at labels j ≤ leftOut
-  pub two : (j : ℕ) → j < m → (at closings j ≡ 0) ⊎ ((far ≤ at closings j) × (at closings j < far + k))
+  pub labels-in : (j : ℕ) → j < m → at labels j ≤ leftOut
+  pub open-or-closed : (j : ℕ) → j < m → (at closings j ≡ 0) ⊎ ((far ≤ at closings j) × (at closings j < far + k))
   pub root : (j : ℕ) → j < m → cell cells m track j < far → at prices track + at labels j ≤ cell cells m track j + at discounts j
   pub closed : (c : ℕ) → c < m → far ≤ at closings c → Closed cells m n pairing prices discounts leaving labels c (at owner c)
   pub sorted : (c e : ℕ) → c < m → e < m → far ≤ at closings c → at closings e ≡ 0 → at labels c ≤ at labels e
@@ -96,35 +104,54 @@ pub record Scanned (cells : List ℕ) (m : ℕ) (discounts : List ℕ) (d ui i :
 pub record Scannable (cells : List ℕ) (m lo i d : ℕ) (prices discounts labels via : List ℕ) : Type 0 where
   pub first-in : lo ≤ m
   pub before : (e : ℕ) → e < lo → at labels e ≤ d
-  pub ii : i < length prices
+  pub track-in : i < length prices
   pub cells-long : length cells ≡ length prices * m
   pub cells-good : (k : ℕ) → k < length cells → IsCell (at cells k)
   pub discounts-long : length discounts ≡ m
   pub labels-long : length labels ≡ m
   pub via-long : length via ≡ m
-  pub label-in : d ≤ leftOut
-  pub P : Prices cells m (length prices) prices discounts
-  pub cap : (j : ℕ) → j < m → at labels j ≤ leftOut
+  pub offer-in : d ≤ leftOut
+  pub numbers : Prices cells m (length prices) prices discounts
+  pub labels-in : (j : ℕ) → j < m → at labels j ≤ leftOut
 
--- what search asks: a track that is in no pair
-pub record Searchable (cells : List ℕ) (m track : ℕ) (pairing owner prices discounts labels via closings : List ℕ) : Type 0 where
-  pub shape : Shape cells m (length prices) pairing owner prices discounts
-  pub P : Prices cells m (length prices) prices discounts
-  pub M : Match cells m (length prices) pairing owner prices discounts none
-  pub track-in : track < length prices
-  pub rp : at pairing track ≡ none
+-- the working lists of a search
+pub record Rooms (m : ℕ) (labels via closings : List ℕ) : Type 0 where
   pub labels-long : length labels ≡ m
   pub via-long : length via ≡ m
   pub closings-long : length closings ≡ m
+
+-- what search asks: a track that is in no pair
+pub record Searchable (cells : List ℕ) (m track : ℕ) (pairing owner prices discounts labels via closings : List ℕ) : Type 0 where
+  pub good : Good cells m (length prices) pairing owner prices discounts
+  pub track-in : track < length prices
+  pub unpaired : at pairing track ≡ none
+  pub rooms : Rooms m labels via closings
+
+-- the reports before front are closed
+pub record Front (front m : ℕ) (closings : List ℕ) : Type 0 where
+  pub upto : front ≤ m
+  pub closed : (e : ℕ) → e < front → far ≤ at closings e
+
+-- where a search stands: its tree, the reports closed so far, and the nearest open one; next is no report where none is nearer than
+-- leaving a track out
+pub record Standing (cells : List ℕ) (m n : ℕ) (pairing owner prices discounts : List ℕ) (track leaving leaver closed front next : ℕ) (labels via closings : List ℕ) : Type 0 where
+  pub good : Good cells m n pairing owner prices discounts
+  pub tree : Tree cells m n pairing owner prices discounts track leaving leaver closed labels via closings
+  pub behind : Front front m closings
+  pub nearest : Nearest labels closings leaving next
+
+-- whether next is a report that has a track
+abbrev pub isTaken : List ℕ → ℕ → Bool
+isTaken owner next = ltb next (length owner) && not (eqb (at owner next) none)
 
 -- what a search finds: labels, and D, at which a free report is reached or a track is left out
 pub record Ended (cells : List ℕ) (m n : ℕ) (pairing owner prices discounts : List ℕ) (track D report leaver : ℕ) (labels via closings : List ℕ) : Type 0 where
   pub labels-long : length labels ≡ m
-  pub cap : (j : ℕ) → j < m → at labels j ≤ leftOut
+  pub labels-in : (j : ℕ) → j < m → at labels j ≤ leftOut
   pub via-long : length via ≡ m
   pub closings-long : length closings ≡ m
   pub root : (j : ℕ) → j < m → cell cells m track j < far → at prices track + at labels j ≤ cell cells m track j + at discounts j
-  pub dr : D + at prices track ≤ leftOut
+  pub price-in : D + at prices track ≤ leftOut
   pub near : (c : ℕ) → c < m → at labels c < D → Closed cells m n pairing prices discounts D labels c (at owner c)
   pub low : (c : ℕ) → c < m → far ≤ at closings c → at labels c ≤ D
   pub links : (c : ℕ) → c < m → far ≤ at closings c → Link cells m n pairing prices discounts track labels closings c (at via c)
@@ -146,14 +173,14 @@ pub record Chain (cells : List ℕ) (m n : ℕ) (pairing prices discounts : List
 pub record Holed (cells : List ℕ) (m n : ℕ) (prices discounts : List ℕ) (track : ℕ) (via closings pairing owner : List ℕ) (h : ℕ) : Type 0 where
   pub hole-in : h < m
   pub hole-closed : far ≤ at closings h
-  pub M : Match cells m n pairing owner prices discounts h
+  pub matched : Match cells m n pairing owner prices discounts h
   pub chain : Chain cells m n pairing prices discounts track via closings (at closings h)
-  pub rp : at pairing track ≡ none
+  pub unpaired : at pairing track ≡ none
 
 -- the hole is filled
 pub record Unbroken (cells : List ℕ) (m n : ℕ) (prices discounts : List ℕ) (track : ℕ) (pairing owner : List ℕ) : Type 0 where
-  pub M : Match cells m n pairing owner prices discounts none
-  pub rp : at pairing track < m
+  pub matched : Match cells m n pairing owner prices discounts none
+  pub placed : at pairing track < m
 
 -- from one pairing to another: only the track comes in, and no report becomes free
 pub record Moved (m n track : ℕ) (pairing owner pairing' owner' : List ℕ) : Type 0 where
@@ -175,19 +202,14 @@ pub record Flipped (cells : List ℕ) (m n : ℕ) (prices discounts : List ℕ) 
   pub whole : Unbroken cells m n prices discounts track pairing' owner'
   pub kept : (i : ℕ) → i < n → at pairing i < m → at pairing' i < m
 
-pub record Good (cells : List ℕ) (m n : ℕ) (pairing owner prices discounts : List ℕ) : Type 0 where
-  pub shape : Shape cells m n pairing owner prices discounts
-  pub P : Prices cells m n prices discounts
-  pub M : Match cells m n pairing owner prices discounts none
-
 -- the pairing is to be changed along the chain that ends in a free report, or in a track that is left out
 pub record Finishable (cells : List ℕ) (m n : ℕ) (prices discounts : List ℕ) (track : ℕ) (via closings : List ℕ) (report leaver : ℕ) (pairing owner : List ℕ) : Type 0 where
   pub shape : Shape cells m n pairing owner prices discounts
   pub via-long : length via ≡ m
   pub closings-long : length closings ≡ m
   pub track-in : track < n
-  pub rp : at pairing track ≡ none
-  pub M : Match cells m n pairing owner prices discounts none
+  pub unpaired : at pairing track ≡ none
+  pub matched : Match cells m n pairing owner prices discounts none
   pub chain : (b : ℕ) → Chain cells m n pairing prices discounts track via closings b
   pub end : ((report < m) × ((at owner report ≡ none) × (far ≤ at closings report)))
       ⊎ ((report ≡ none) × (((leaver ≡ track) × (at prices track ≡ leftOut))
@@ -196,9 +218,9 @@ pub record Finishable (cells : List ℕ) (m n : ℕ) (prices discounts : List �
 pub record Settled (cells : List ℕ) (m n : ℕ) (prices discounts : List ℕ) (track : ℕ) (pairing owner pairing' owner' : List ℕ) : Type 0 where
   pub shape : Shape cells m n pairing' owner' prices discounts
   pub moved : Moved m n track pairing owner pairing' owner'
-  pub M : Match cells m n pairing' owner' prices discounts none
+  pub matched : Match cells m n pairing' owner' prices discounts none
   pub done : (i : ℕ) → i < n → at pairing i < m → (at pairing' i < m) ⊎ (at prices i ≡ leftOut)
-  pub done-r : (at pairing' track < m) ⊎ (at prices track ≡ leftOut)
+  pub track-done : (at pairing' track < m) ⊎ (at prices track ≡ leftOut)
 
 -- track i is paired, or left out at the full price
 abbrev pub Done : ℕ → List ℕ → List ℕ → ℕ → Type 0
@@ -207,12 +229,12 @@ Done m pairing prices i = (at pairing i < m) ⊎ (at prices i ≡ leftOut)
 pub record Inserted (cells : List ℕ) (m n track : ℕ) (pairing prices pairing' owner' prices' discounts' : List ℕ) : Type 0 where
   pub good : Good cells m n pairing' owner' prices' discounts'
   pub done : (i : ℕ) → i < n → Done m pairing prices i → Done m pairing' prices' i
-  pub done-r : Done m pairing' prices' track
+  pub track-done : Done m pairing' prices' track
 
 -- how far the prices rose: of a track in a pair, before it meets the score of a free report, there is left what the search had still to go
 pub record Reached (cells : List ℕ) (m n : ℕ) (pairing owner prices labels : List ℕ) (D : ℕ) (pairing' owner' prices' : List ℕ) : Type 0 where
   pub labels-long : length labels ≡ m
-  pub cap : (j : ℕ) → j < m → at labels j ≤ leftOut
+  pub labels-in : (j : ℕ) → j < m → at labels j ≤ leftOut
   pub end : D ≤ leftOut
   pub free : (j : ℕ) → j < m → at owner' j ≡ none → at owner j ≡ none
   pub rise : (i j : ℕ) → i < n → j < m → at pairing' i < m → at owner' j ≡ none → cell cells m i j < far

@@ -11,9 +11,22 @@ use passes::open_from;
 use passes::raise_cols;
 use passes::raise_rows;
 use passes::relax;
+ghost use Prim.Native.Nat.{_+_};
+ghost use mathlib.Core.Path.{_≡_};
+ghost use mathlib.Core.Bool.{true};
 ghost use lib.ListN.{length};
 ghost use Rattle.laws.specs.Lists.{at};
-ghost use Rattle.paths.specs.State.{Scanned, Scannable, Searchable, Ended, Flips, Flipped, Finishable, Settled, Inserted, Reached};
+ghost use Rattle.paths.specs.State.{Scanned, Scannable, Searchable, Standing, isTaken, Ended, Flips, Flipped, Finishable, Settled, Inserted, Reached};
+
+// Where a search stands: what leaving a track out would cost, and which; how many reports are closed, before which report all are,
+// and the nearest open one, the number of reports if none is nearer than leaving a track out.
+struct Stand {
+    leaving: u32,
+    leaver: u32,
+    closed: u32,
+    front: usize,
+    next: usize,
+}
 
 // How a search ended: at which label, with a free report or with a track that is left out, and after how many closed reports.
 struct Ending {
@@ -60,6 +73,83 @@ fn scan(
     );
 }
 
+// The track itself offers to every report; all are open.
+fn set_out(
+    sheet: &[u32],
+    reports: usize,
+    track: u32,
+    pairing: &[u32],
+    owner: &[u32],
+    prices: &[u32],
+    discounts: &[u32],
+    labels: &mut [u32],
+    via: &mut [u32],
+    closings: &mut [u32],
+) -> Stand
+    requires { ⌜ Searchable (now sheet) reports track (now pairing) (now owner) (now prices) (now discounts) (now labels) (now via) (now closings) ⌝ }
+    ensures { λ s. ⌜ Standing (now (sheet .entry)) reports (length (now (prices .entry))) (now (pairing .entry)) (now (owner .entry)) (now (prices .entry)) (now (discounts .entry)) track (s .leaving) (s .leaver) (s .closed) (s .front) (s .next) (now (labels .exit)) (now (via .exit)) (now (closings .exit)) ⌝ }
+{
+    fill(labels, LEFT_OUT);
+    fill(closings, 0);
+    scan(sheet, reports, 0, track, 0, prices, discounts, labels, via);
+    let leaving = LEFT_OUT - prices[idx(track)];
+    let next = nearest_from(0, labels, closings, leaving);
+    Stand {
+        leaving: leaving,
+        leaver: track,
+        closed: 0,
+        front: 0,
+        next: next,
+    }
+}
+
+// The nearest report has a track: it is closed, and its track offers to the open ones.
+fn pass_through(
+    sheet: &[u32],
+    reports: usize,
+    track: u32,
+    pairing: &[u32],
+    owner: &[u32],
+    prices: &[u32],
+    discounts: &[u32],
+    s: Stand,
+    labels: &mut [u32],
+    via: &mut [u32],
+    closings: &mut [u32],
+) -> Stand
+    requires { ⌜ Standing (now sheet) reports (length (now prices)) (now pairing) (now owner) (now prices) (now discounts) track (s .leaving) (s .leaver) (s .closed) (s .front) (s .next) (now labels) (now via) (now closings) ⌝ }
+    requires { ⌜ isTaken (now owner) (s .next) ≡ true ⌝ }
+    ensures { λ r. ⌜ Standing (now (sheet .entry)) reports (length (now (prices .entry))) (now (pairing .entry)) (now (owner .entry)) (now (prices .entry)) (now (discounts .entry)) track (r .leaving) (r .leaver) (r .closed) (r .front) (r .next) (now (labels .exit)) (now (via .exit)) (now (closings .exit)) × (r .closed ≡ s .closed + 1) ⌝ }
+{
+    let j = s.next;
+    let d = labels[j];
+    closings[j] = FAR + s.closed;
+    let o = owner[j];
+    let x = d + (LEFT_OUT - prices[idx(o)]);
+    let leaver = choose(x, s.leaving, o, s.leaver);
+    let leaving = lesser(x, s.leaving);
+    let front = open_from(closings, s.front);
+    scan(sheet, reports, front, o, d, prices, discounts, labels, via);
+    let next = nearest_from(front, labels, closings, leaving);
+    Stand {
+        leaving: leaving,
+        leaver: leaver,
+        closed: s.closed + 1,
+        front: front,
+        next: next,
+    }
+}
+
+// Whether there is a nearest report, and it has a track.
+fn is_taken(owner: &[u32], next: usize) -> bool
+    ensures { λ r. ⌜ r ≡ isTaken (now (owner .entry)) next ⌝ }
+{
+    if next >= owner.len() {
+        return false;
+    }
+    owner[next] != NONE
+}
+
 // From a track without a report: labels grow until a free report is nearest, or leaving a track out costs no more.
 fn search(
     sheet: &[u32],
@@ -76,39 +166,48 @@ fn search(
     requires { ⌜ Searchable (now sheet) reports track (now pairing) (now owner) (now prices) (now discounts) (now labels) (now via) (now closings) ⌝ }
     ensures { λ f. ⌜ Ended (now (sheet .entry)) reports (length (now (prices .entry))) (now (pairing .entry)) (now (owner .entry)) (now (prices .entry)) (now (discounts .entry)) track (f .d) (f .report) (f .leaver) (now (labels .exit)) (now (via .exit)) (now (closings .exit)) ⌝ }
 {
-    fill(labels, LEFT_OUT);
-    fill(closings, 0);
-    let mut leaving = LEFT_OUT - prices[idx(track)];
-    let mut leaver = track;
-    let mut k: u32 = 0;
-    let mut lo: usize = 0;
-    scan(sheet, reports, lo, track, 0, prices, discounts, labels, via);
-    let mut j = nearest_from(lo, labels, closings, leaving);
-    while j < reports {
-        let d = labels[j];
-        closings[j] = FAR + k;
-        k += 1;
-        let o = owner[j];
-        if o == NONE {
-            return Ending {
-                d: d,
-                report: j as u32,
-                leaver: NONE,
-                steps: k,
-            };
-        }
-        let x = d + (LEFT_OUT - prices[idx(o)]);
-        leaver = choose(x, leaving, o, leaver);
-        leaving = lesser(x, leaving);
-        lo = open_from(closings, lo);
-        scan(sheet, reports, lo, o, d, prices, discounts, labels, via);
-        j = nearest_from(lo, labels, closings, leaving);
+    let mut s = set_out(
+        sheet,
+        reports,
+        track,
+        pairing,
+        owner,
+        prices,
+        discounts,
+        labels,
+        via,
+        closings,
+    );
+    while is_taken(owner, s.next) {
+        s = pass_through(
+            sheet,
+            reports,
+            track,
+            pairing,
+            owner,
+            prices,
+            discounts,
+            s,
+            labels,
+            via,
+            closings,
+        );
     }
+    let j = s.next;
+    if j >= reports {
+        return Ending {
+            d: s.leaving,
+            report: NONE,
+            leaver: s.leaver,
+            steps: s.closed,
+        };
+    }
+    closings[j] = FAR + s.closed;
     Ending {
-        d: leaving,
-        report: NONE,
-        leaver: leaver,
-        steps: k,
+        d: labels[j],
+        report: j as u32,
+        leaver: NONE,
+        steps: s.closed + 1,
     }
 }
 
@@ -220,14 +319,10 @@ pub fn insert(
         via,
         closings,
     );
-    let d = f.d;
-    let report = f.report;
-    let leaver = f.leaver;
-    let steps = f.steps;
-    raise_cols(labels, d, discounts);
-    raise_rows(pairing, owner, labels, d, prices);
+    raise_cols(labels, f.d, discounts);
+    raise_rows(pairing, owner, labels, f.d, prices);
     let x = idx(track);
-    prices[x] = prices[x] + d;
+    prices[x] = prices[x] + f.d;
     finish(
         sheet,
         reports,
@@ -236,10 +331,13 @@ pub fn insert(
         track,
         via,
         closings,
-        report,
-        leaver,
+        f.report,
+        f.leaver,
         pairing,
         owner,
     );
-    Reach { d: d, steps: steps }
+    Reach {
+        d: f.d,
+        steps: f.steps,
+    }
 }

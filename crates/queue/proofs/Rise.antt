@@ -10,14 +10,14 @@ use Rattle.laws.specs.Lists.{at}
 use Rattle.matching.specs.Pairing.{none, leftOut}
 use Rattle.passes.specs.Cells.{far}
 use Rattle.lifting.specs.Slack.{Row, Kept, Raised, Spent, Slacks, Tightened}
-use Rattle.paths.specs.State.{cell, Own, Good, Inserted, Reached, Searchable}
+use Rattle.paths.specs.State.{cell, Own, Good, Rooms, Inserted, Reached, Searchable}
 use Rattle.paths.proofs.Rows.{row, row-length, row-at, row-end}
-use Rattle.queue.specs.State.{Slack, Lifting, Rooms}
+use Rattle.queue.specs.State.{Slack, Lifting}
 
 -- a report that no track has is without discount
 pub free-zero : (cells : List ℕ) (m n : ℕ) (pairing owner prices discounts : List ℕ) → Good cells m n pairing owner prices discounts → (j : ℕ) → j < m → at owner j ≡ none → at discounts j ≡ 0
 free-zero cells m n pairing owner prices discounts G j g z =
-    ⊎-elim (λ a. a .1) (λ o. absurd (omega (arith, o .there, G .shape .tracks-few))) (G .M .owned j g (λ e. omega (arith, G .shape .reports-few)))
+    ⊎-elim (λ a. a .1) (λ o. absurd (omega (arith, o .there, G .shape .tracks-few))) (G .matched .owned j g (λ e. omega (arith, G .shape .reports-few)))
 
 module _ (cells : List ℕ) (m track : ℕ) (pairing owner prices discounts slack : List ℕ) (G : Good cells m (length prices) pairing owner prices discounts) (h : track < length prices)
     (K : Slack cells m track pairing owner prices slack) where
@@ -32,7 +32,7 @@ module _ (cells : List ℕ) (m track : ℕ) (pairing owner prices discounts slac
     same = rl ∙ sym (K .slack-long);
     cells-good = λ k g. let q : k < m = omega (arith, K .slack-long) in
         rw (ra k q) (G .shape .cells-good (track * m + k) (omega (arith, row-end cells m (length prices) track h (G .shape .cells-long))));
-    top = G .P .price-in track h;
+    top = G .numbers .price-in track h;
     small = K .small;
   }
 
@@ -55,7 +55,7 @@ module _ (cells : List ℕ) (m track : ℕ) (pairing owner prices discounts slac
           R .room j s (omega (arith, ra j g, ap (λ (k : ℕ). cell cells m k j) q)),
           ra j g,
           ap (λ (k : ℕ). cell cells m k j) q,
-          G .P .fair track j h g (omega (arith, ap (λ (k : ℕ). cell cells m k j) q)),
+          G .numbers .fair track j h g (omega (arith, ap (λ (k : ℕ). cell cells m k j) q)),
           free-zero cells m (length prices) pairing owner prices discounts G j g f,
         )))
         (λ d. omega (arith, K .room i j (omega arith) g p f a, R .less j s)) (same-or i track);
@@ -84,11 +84,11 @@ module _ (cells : List ℕ) (m n : ℕ) (pairing owner prices discounts slack : 
 
   feas' : (i j : ℕ) → i < n → j < m → cell cells m i j < far → at prices' i ≤ cell cells m i j + at discounts' j
   feas' i j h g a =
-      let f = G .P .fair i j h g a in
+      let f = G .numbers .fair i j h g a in
       ⊎-elim
       (λ z. ⊎-elim (λ y. omega (arith, u-none i h z, w-none j g y)) (λ d. omega (arith, u-none i h z, w-own j g d)) (same-or (at owner j) none))
       (λ p. ⊎-elim (λ y. omega (arith, u-pair i h (p .0), xs j g y, L .slacks .room i j h g (p .0) y a)) (λ d. omega (arith, u-pair i h (p .0), w-own j g d)) (same-or (at owner j) none))
-      (G .M .paired i h)
+      (G .matched .paired i h)
 
   own' : (j : ℕ) → j < m → Own cells m n pairing prices discounts j (at owner j) → Own cells m n pairing prices' discounts' j (at owner j)
   own' j g o = record {
@@ -101,15 +101,15 @@ module _ (cells : List ℕ) (m n : ℕ) (pairing owner prices discounts slack : 
   good' : Good cells m n pairing owner prices' discounts'
   good' = record {
     shape = record { cells-long = G .shape .cells-long; pairing-long = G .shape .pairing-long; owner-long = G .shape .owner-long; prices-long = U .same-long ∙ G .shape .prices-long; discounts-long = W .same-long ∙ G .shape .discounts-long; tracks-few = G .shape .tracks-few; reports-few = G .shape .reports-few; cells-good = G .shape .cells-good };
-    P = record {
+    numbers = record {
       fair = feas';
-      price-in = λ i h. ⊎-elim (λ z. omega (arith, u-none i h z, G .P .price-in i h)) (λ p. omega (arith, u-pair i h (p .0), xu i h)) (G .M .paired i h);
-      discount-in = λ j g. ⊎-elim (λ z. omega (arith, w-none j g (z .0), G .P .discount-in j g))
-          (λ o. omega (arith, w-own j g (owned j o), o .tight, xu (at owner j) (o .there))) (G .M .owned j g (λ e. omega (arith, G .shape .reports-few)));
+      price-in = λ i h. ⊎-elim (λ z. omega (arith, u-none i h z, G .numbers .price-in i h)) (λ p. omega (arith, u-pair i h (p .0), xu i h)) (G .matched .paired i h);
+      discount-in = λ j g. ⊎-elim (λ z. omega (arith, w-none j g (z .0), G .numbers .discount-in j g))
+          (λ o. omega (arith, w-own j g (owned j o), o .tight, xu (at owner j) (o .there))) (G .matched .owned j g (λ e. omega (arith, G .shape .reports-few)));
     };
-    M = record {
-      owned = λ j g d. ⊎-elim (λ z. inl (z .0, w-none j g (z .0) ∙ z .1)) (λ o. inr (own' j g o)) (G .M .owned j g d);
-      paired = G .M .paired;
+    matched = record {
+      owned = λ j g d. ⊎-elim (λ z. inl (z .0, w-none j g (z .0) ∙ z .1)) (λ o. inr (own' j g o)) (G .matched .owned j g d);
+      paired = G .matched .paired;
     };
   }
 
@@ -131,7 +131,7 @@ module _ (cells : List ℕ) (m n track : ℕ) (pairing owner prices discounts sl
   search-slacks = record {
     same = R .labels-long ∙ sym (L .slacks .slack-long);
     end = R .end;
-    labels-small = λ k h. R .cap k (omega (arith, R .labels-long));
+    labels-small = λ k h. R .labels-in k (omega (arith, R .labels-long));
     small = L .slacks .small;
   }
 
@@ -150,7 +150,7 @@ module _ (cells : List ℕ) (m n track : ℕ) (pairing owner prices discounts sl
 pub waits : (cells : List ℕ) (m track : ℕ) (pairing owner prices discounts labels via closings : List ℕ) → Good cells m (length prices) pairing owner prices discounts → Rooms m labels via closings
     → track < length prices → at pairing track ≡ none → Searchable cells m track pairing owner prices discounts labels via closings
 waits cells m track pairing owner prices discounts labels via closings G L h z =
-    record { shape = G .shape; P = G .P; M = G .M; track-in = h; rp = z; labels-long = L .labels-long; via-long = L .via-long; closings-long = L .closings-long }
+    record { good = G; track-in = h; unpaired = z; rooms = L }
 
 -- with another name for the number of tracks
 pub lifting-at : (cells : List ℕ) (m n k : ℕ) (pairing owner prices discounts slack : List ℕ) → k ≡ n → Lifting cells m k pairing owner prices discounts slack → Lifting cells m n pairing owner prices discounts slack

@@ -18,9 +18,3 @@ pub record Slack (cells : List ℕ) (m t : ℕ) (pairing owner prices slack : Li
 pub record Lifting (cells : List ℕ) (m n : ℕ) (pairing owner prices discounts slack : List ℕ) : Type 0 where
   pub good : Good cells m n pairing owner prices discounts
   pub slacks : Slack cells m n pairing owner prices slack
-
--- the working lists of a search
-pub record Rooms (m : ℕ) (labels via closings : List ℕ) : Type 0 where
-  pub labels-long : length labels ≡ m
-  pub via-long : length via ≡ m
-  pub closings-long : length closings ≡ m

@@ -18,8 +18,8 @@ ghost use lib.ListN.{length};
 ghost use Rattle.laws.specs.Lists.{at};
 ghost use Rattle.matching.specs.Pairing.{none};
 ghost use Rattle.lifting.specs.Slack.{Small};
-ghost use Rattle.paths.specs.State.{Good};
-ghost use Rattle.queue.specs.State.{Slack, Lifting, Rooms};
+ghost use Rattle.paths.specs.State.{Good, Rooms};
+ghost use Rattle.queue.specs.State.{Slack, Lifting};
 
 // A search that closes as many reports is long.
 const LONG: u32 = 20;

@@ -30,7 +30,7 @@ visit-requires : tie.Need-visit-requires Inv-loop μ-loop
 visit-requires c κs =
     let G = c .before .before .before .before .before .before .before .before .loop .inv .0 in
     let v = c .before .before .before .before .before .before .before .before .loop .inv .1 .1 .1 in
-    record { good = good-len _ _ _ _ _ _ _ G; track-in = c .before .before .before .before .before .before .before .loop-test .taken; labels-long = v .0; via-long = v .1 .0; closings-long = v .1 .1 }
+    record { good = good-len _ _ _ _ _ _ _ G; track-in = c .before .before .before .before .before .before .before .loop-test .taken; rooms = record { labels-long = v .0; via-long = v .1 .0; closings-long = v .1 .1 } }
 
 add-track : tie.Need-add-track Inv-loop μ-loop
 add-track c = search needs
@@ -45,7 +45,7 @@ loop-again c =
       good-at _ _ _ _ _ _ _ _ (G .shape .prices-long) (I .good),
       (
         omega (arith, G .shape .prices-long),
-        (below-more _ _ (λ i h. I .done i (omega arith) (c .before .before .before .before .before .before .before .before .before .before .before .before .before .before .before .before .before .before .before .before .before .before .before .loop .inv .1 .1 .0 i h)) (I .done-r), (search needs, (search needs, search needs))),
+        (below-more _ _ (λ i h. I .done i (omega arith) (c .before .before .before .before .before .before .before .before .before .before .before .before .before .before .before .before .before .before .before .before .before .before .before .loop .inv .1 .1 .0 i h)) (I .track-done), (search needs, (search needs, search needs))),
       ),
     )
 

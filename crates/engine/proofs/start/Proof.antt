@@ -31,7 +31,7 @@ claim-requires c κs = let s = c .before .before .before .before .before .before
     let a = c .before .before .before .before .loop in
     let G = a .inv .0 in
     let t = c .before .before .before .loop-test .taken in
-    record { good = good-len _ _ _ _ _ _ _ G; track-in = t; rp = a .inv .1 .1 (a .track) (omega arith) (omega (arith, G .shape .prices-long)); zero = s .pre .1 .1 }
+    record { good = good-len _ _ _ _ _ _ _ G; track-in = t; unpaired = a .inv .1 .1 (a .track) (omega arith) (omega (arith, G .shape .prices-long)); zero = s .pre .1 .1 }
 
 add-track : tie.Need-add-track Inv-loop μ-loop
 add-track c = search needs

@@ -37,7 +37,7 @@ offer-requires c κs = let a = c .before .before .before in
     let p = a .before .before .before .before .before .pre in
     let j = a .loop .j in
     let h : j < length (a .before .before .before .before .before .args .labels .now) = omega (arith, a .loop .inv .labels-long) in
-    (p .ww j h, (p .du, (p .uu, (p .ok j h, p .cells-good j h))))
+    (p .discount-in j h, (p .offer-in, (p .price-in, (p .fair j h, p .cells-good j h))))
 
 mul-od : tie.Need-mul-od Inv-loop μ-loop
 mul-od c = search needs
@@ -57,7 +57,7 @@ low-requires c κs = let a = c .before .before .before .before .before .before i
     let j = a .loop .j in
     let h : j < length (s .args .labels .now) = omega (arith, a .loop .inv .labels-long) in
     let e : at (a .loop .labels) j ≡ at (s .args .labels .now) j = a .loop .inv .rest-d j (omega arith) in
-    let q : at (a .loop .labels) j < 2 ^ 31 = omega (arith, s .pre .label-in j h) in
+    let q : at (a .loop .labels) j < 2 ^ 31 = omega (arith, s .pre .labels-in j h) in
     (c .before .before .offer .ensures .1 .1, q)
 
 mul-labels : tie.Need-mul-labels Inv-loop μ-loop
@@ -72,7 +72,7 @@ pick-requires c κs = let a = c .before .before .before .before .before .before 
     let j = a .loop .j in
     let h : j < length (s .args .labels .now) = omega (arith, a .loop .inv .labels-long) in
     let e : at (a .loop .labels) j ≡ at (s .args .labels .now) j = a .loop .inv .rest-d j (omega arith) in
-    let q : at (a .loop .labels) j < 2 ^ 31 = omega (arith, s .pre .label-in j h) in
+    let q : at (a .loop .labels) j < 2 ^ 31 = omega (arith, s .pre .labels-in j h) in
     (c .before .before .before .offer .ensures .1 .1, q)
 
 mul-via : tie.Need-mul-via Inv-loop μ-loop
@@ -100,7 +100,7 @@ loop-again c = let a = c .before .before .before .before .before .before .before
     let o = c .before .before .before .before .offer in
     let l = c .before .low in
     let t : Step (at (s .args .cells .now) j) (at (s .args .discounts .now) j) (s .args .label) (s .args .price) (s .args .track) (at (a .loop .labels) j) (at (a .loop .via) j) (l .result) (c .pick .result) =
-    step _ _ _ _ _ _ _ (o .result) _ _ (o .ensures .0) (o .ensures .1 .0) (omega (arith, p .label-in j h, e))
+    step _ _ _ _ _ _ _ (o .result) _ _ (o .ensures .0) (o .ensures .1 .0) (omega (arith, p .labels-in j h, e))
     (l .ensures .0) (l .ensures .1 .0) (l .ensures .1 .1 .0) (l .ensures .1 .1 .1) (c .pick .ensures .0) (c .pick .ensures .1) in
     record {
       in-range = omega arith;

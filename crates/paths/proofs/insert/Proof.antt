@@ -1,54 +1,41 @@
-use Rattle.paths.proofs.Lift.{paid, u1-small, turned-len, inserted-len, reached-len}
-use native.Mathlib.Omega.{arith}
 use borrow.Author.Needs.{needs}
+use native.Mathlib.Omega.{arith}
+use Rattle.paths.proofs.Lift.{paid, u1-small, turned, inserted, reached}
 use Rattle.paths.proofs.insert.Statement.{statement}
 use Rattle.paths.proofs.insert.Tie as tie
 
 search-requires : tie.Need-search-requires
-search-requires c κs = c .before .before .before .before .before .before .before .before .before .before .before .before .before .before .before .pre
+search-requires c κs = search needs
 
 raise-cols-requires : tie.Need-raise-cols-requires
-raise-cols-requires c κs = let s = c .before .before .before .before .before .before .before .before .before .before .before .before .before .before .before .before .before .before .before .before .before .before .before .before in
+raise-cols-requires c κs =
     let E = c .before .before .before .before .before .before .before .before .search .ensures in
-    (omega (arith, E .labels-long, s .pre .shape .discounts-long), λ j h. omega (arith, E .dr, s .pre .P .discount-in j (omega (arith, s .pre .shape .discounts-long))))
+    let g = c .before .before .before .before .before .before .before .before .before .before .before .before .before .before .before .before .before .before .before .before .before .before .before .before .pre .good in
+    (omega (arith, E .labels-long, g .shape .discounts-long), λ j h. omega (arith, E .price-in, g .numbers .discount-in j (omega (arith, g .shape .discounts-long))))
 
 raise-rows-requires : tie.Need-raise-rows-requires
-raise-rows-requires c κs = let s = c .before .before .before .before .before .before .before .before .before .before .before .before .before .before .before .before .before .before .before .before .before .before .before .before .before .before .before .before .before .before .before in
-    let E = c .before .before .before .before .before .before .before .before .before .before .before .before .before .before .before .search .ensures in
-    paid _ _ _ _ _ _ _ _ _ _ (s .pre) _ _ _ _ _ _ E
+raise-rows-requires c κs = paid (c .before .before .before .before .before .before .before .before .before .before .before .before .before .before .before .before .before .before .before .before .before .before .before .before .before .before .before .before .before .before .before .pre) (c .before .before .before .before .before .before .before .before .before .before .before .before .before .before .before .search .ensures)
 
 idx-requires : tie.Need-idx-requires
 idx-requires c κs = search needs
 
 mul-prices : tie.Need-mul-prices
-mul-prices c = let s = c .before .before .before .before .before .before .before .before .before .before .before .before .before .before .before .before .before .before .before .before .before .before .before .before .before .before .before .before .before .before .before .before .before .before .before in
-    let E = c .before .before .before .before .before .before .before .before .before .before .before .before .before .before .before .before .before .before .before .search .ensures in
-    omega (arith, c .idx .ensures, s .pre .track-in, s .pre .shape .tracks-few, c .before .before .before .raise-rows .ensures .prices-long)
+mul-prices c = omega (arith, c .idx .ensures, c .before .before .before .before .before .before .before .before .before .before .before .before .before .before .before .before .before .before .before .before .before .before .before .before .before .before .before .before .before .before .before .before .before .before .before .pre .track-in, c .before .before .before .before .before .before .before .before .before .before .before .before .before .before .before .before .before .before .before .before .before .before .before .before .before .before .before .before .before .before .before .before .before .before .before .pre .good .shape .tracks-few)
 
 slice-read-prices : tie.Need-slice-read-prices
-slice-read-prices c = let s = c .before .before .before .before .before .before .before .before .before .before .before .before .before .before .before .before .before .before .before .before .before .before .before .before .before .before .before .before .before .before .before .before .before .before .before .before in
-    let E = c .before .before .before .before .before .before .before .before .before .before .before .before .before .before .before .before .before .before .before .before .search .ensures in
-    omega (arith, c .before .idx .ensures, s .pre .track-in, s .pre .shape .tracks-few, c .before .before .before .before .raise-rows .ensures .prices-long)
+slice-read-prices c = omega (arith, c .before .idx .ensures, c .before .before .before .before .before .before .before .before .before .before .before .before .before .before .before .before .before .before .before .before .before .before .before .before .before .before .before .before .before .before .before .before .before .before .before .before .pre .track-in, c .before .before .before .before .raise-rows .ensures .prices-long)
 
 add-prices : tie.Need-add-prices
-add-prices c = let s = c .before .before .before .before .before .before .before .before .before .before .before .before .before .before .before .before .before .before .before .before .before .before .before .before .before .before .before .before .before .before .before .before .before .before .before .before in
-    let E = c .before .before .before .before .before .before .before .before .before .before .before .before .before .before .before .before .before .before .before .before .search .ensures in
-    omega (arith, u1-small _ _ _ _ _ _ _ _ _ _ (s .pre) _ _ _ _ _ _ E _ _ (c .before .before .before .before .raise-rows .ensures) (c .before .before .before .before .before .before .before .before .before .before .before .raise-cols .ensures) _ (c .before .idx .ensures))
+add-prices c = omega (arith, u1-small (c .before .before .before .before .before .before .before .before .before .before .before .before .before .before .before .before .before .before .before .before .before .before .before .before .before .before .before .before .before .before .before .before .before .before .before .before .before .pre) (c .before .before .before .before .before .before .before .before .before .before .before .before .before .before .before .before .before .before .before .before .before .search .ensures) (c .before .before .before .before .before .raise-rows .ensures) (c .before .before .before .before .before .before .before .before .before .before .before .before .raise-cols .ensures) (c .before .before .idx .ensures))
 
 mul-prices-2 : tie.Need-mul-prices-2
-mul-prices-2 c = let s = c .before .before .before .before .before .before .before .before .before .before .before .before .before .before .before .before .before .before .before .before .before .before .before .before .before .before .before .before .before .before .before .before .before .before .before .before in
-    let E = c .before .before .before .before .before .before .before .before .before .before .before .before .before .before .before .before .before .before .before .before .search .ensures in
-    omega (arith, c .before .idx .ensures, s .pre .track-in, s .pre .shape .tracks-few, c .before .before .before .before .raise-rows .ensures .prices-long)
+mul-prices-2 c = omega (arith, c .before .before .idx .ensures, c .before .before .before .before .before .before .before .before .before .before .before .before .before .before .before .before .before .before .before .before .before .before .before .before .before .before .before .before .before .before .before .before .before .before .before .before .before .pre .track-in, c .before .before .before .before .before .before .before .before .before .before .before .before .before .before .before .before .before .before .before .before .before .before .before .before .before .before .before .before .before .before .before .before .before .before .before .before .before .pre .good .shape .tracks-few)
 
 slice-write-prices : tie.Need-slice-write-prices
-slice-write-prices c = let s = c .before .before .before .before .before .before .before .before .before .before .before .before .before .before .before .before .before .before .before .before .before .before .before .before .before .before .before .before .before .before .before .before .before .before .before .before in
-    let E = c .before .before .before .before .before .before .before .before .before .before .before .before .before .before .before .before .before .before .before .before .search .ensures in
-    omega (arith, c .before .idx .ensures, s .pre .track-in, s .pre .shape .tracks-few, c .before .before .before .before .raise-rows .ensures .prices-long)
+slice-write-prices c = omega (arith, c .before .before .idx .ensures, c .before .before .before .before .before .before .before .before .before .before .before .before .before .before .before .before .before .before .before .before .before .before .before .before .before .before .before .before .before .before .before .before .before .before .before .before .before .pre .track-in, c .before .before .before .before .before .raise-rows .ensures .prices-long)
 
 finish-requires : tie.Need-finish-requires
-finish-requires c κs = let s = c .before .before .before .before .before .before .before .before .before .before .before .before .before .before .before .before .before .before .before .before .before .before .before .before .before .before .before .before .before .before .before .before .before .before .before .before .before .before .before .before .before .before in
-    let E = c .before .before .before .before .before .before .before .before .before .before .before .before .before .before .before .before .before .before .before .before .before .before .before .before .before .before .search .ensures in
-    turned-len _ _ _ _ _ _ _ _ _ _ (s .pre) _ _ _ _ _ _ E _ _ (c .before .before .before .before .before .before .before .before .before .before .raise-rows .ensures) (c .before .before .before .before .before .before .before .before .before .before .before .before .before .before .before .before .before .raise-cols .ensures) _ (c .before .before .before .before .before .before .before .idx .ensures)
+finish-requires c κs = turned (c .before .before .before .before .before .before .before .before .before .before .before .before .before .before .before .before .before .before .before .before .before .before .before .before .before .before .before .before .before .before .before .before .before .before .before .before .before .before .before .before .before .before .before .pre) (c .before .before .before .before .before .before .before .before .before .before .before .before .before .before .before .before .before .before .before .before .before .before .before .before .before .before .before .search .ensures) (c .before .before .before .before .before .before .before .before .before .before .before .raise-rows .ensures) (c .before .before .before .before .before .before .before .before .before .before .before .before .before .before .before .before .before .before .raise-cols .ensures) (c .before .before .before .before .before .before .before .before .idx .ensures)
 
 same-length : tie.Need-same-length
 same-length c = search needs
@@ -63,7 +50,7 @@ same-length-4 : tie.Need-same-length-4
 same-length-4 c = search needs
 
 same-length-5 : tie.Need-same-length-5
-same-length-5 c = search needs
+same-length-5 c = omega (arith, c .before .before .before .before .before .before .before .before .before .before .before .before .before .before .before .before .before .before .before .before .before .before .before .before .before .before .before .before .before .before .before .before .search .ensures .labels-long, c .before .before .before .before .before .before .before .before .before .before .before .before .before .before .before .before .before .before .before .before .before .before .before .before .before .before .before .before .before .before .before .before .before .before .before .before .before .before .before .before .before .before .before .before .before .before .before .before .pre .rooms .labels-long)
 
 same-length-6 : tie.Need-same-length-6
 same-length-6 c = search needs
@@ -72,9 +59,14 @@ same-length-7 : tie.Need-same-length-7
 same-length-7 c = search needs
 
 returns : tie.Need-returns
-returns c = let s = c .before .before .before .before .before .before .before .before .before .before .before .before .before .before .before .before .before .before .before .before .before .before .before .before .before .before .before .before .before .before .before .before .before .before .before .before .before .before .before .before .before .before .before .before .before .before .before in
-    let E = c .before .before .before .before .before .before .before .before .before .before .before .before .before .before .before .before .before .before .before .before .before .before .before .before .before .before .before .before .before .before .before .search .ensures in
-    (inserted-len _ _ _ _ _ _ _ _ _ _ (s .pre) _ _ _ _ _ _ E _ _ (c .before .before .before .before .before .before .before .before .before .before .before .before .before .before .before .raise-rows .ensures) (c .before .before .before .before .before .before .before .before .before .before .before .before .before .before .before .before .before .before .before .before .before .before .raise-cols .ensures) _ (c .before .before .before .before .before .before .before .before .before .before .before .before .idx .ensures) _ _ (c .before .before .before .before .finish .ensures), reached-len _ _ _ _ _ _ _ _ _ _ (s .pre) _ _ _ _ _ _ E _ _ (c .before .before .before .before .before .before .before .before .before .before .before .before .before .before .before .raise-rows .ensures) (c .before .before .before .before .before .before .before .before .before .before .before .before .before .before .before .before .before .before .before .before .before .before .raise-cols .ensures) _ (c .before .before .before .before .before .before .before .before .before .before .before .before .idx .ensures) _ _ (c .before .before .before .before .finish .ensures))
+returns c =
+    let R = c .before .before .before .before .before .before .before .before .before .before .before .before .before .before .before .before .before .before .before .before .before .before .before .before .before .before .before .before .before .before .before .before .before .before .before .before .before .before .before .before .before .before .before .before .before .before .before .before .pre in
+    let E = c .before .before .before .before .before .before .before .before .before .before .before .before .before .before .before .before .before .before .before .before .before .before .before .before .before .before .before .before .before .before .before .before .search .ensures in
+    let RU = c .before .before .before .before .before .before .before .before .before .before .before .before .before .before .before .before .raise-rows .ensures in
+    let CU = c .before .before .before .before .before .before .before .before .before .before .before .before .before .before .before .before .before .before .before .before .before .before .before .raise-cols .ensures in
+    let x = c .before .before .before .before .before .before .before .before .before .before .before .before .before .idx .ensures in
+    let S = c .before .before .before .before .finish .ensures in
+    (inserted R E RU CU x S, reached R E RU CU x S)
 
 pub insert-spec : {M : Type 1} → statement M
 insert-spec =

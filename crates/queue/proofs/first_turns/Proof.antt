@@ -1,6 +1,5 @@
 use Rattle.queue.proofs.Rise.{good-at, good-len, waits}
-use Rattle.queue.specs.State.{Rooms}
-use Rattle.paths.specs.State.{Good}
+use Rattle.paths.specs.State.{Good, Rooms}
 use Prim.Native.Nat.{_≤_, _-_}
 use lib.ListN.{length}
 use native.Mathlib.Omega.{arith}
@@ -20,7 +19,7 @@ loop-holds c = (c .before .before .before .before .before .before .before .befor
 next-turn-requires : tie.Need-next-turn-requires Inv-loop μ-loop
 next-turn-requires c κs =
     let G = c .before .before .before .loop .inv .0 in
-    (omega (arith, G .shape .pairing-long, G .shape .prices-long), (omega (arith, G .shape .prices-long, G .shape .tracks-few), λ k h. G .P .price-in k (omega (arith, G .shape .prices-long))))
+    (omega (arith, G .shape .pairing-long, G .shape .prices-long), (omega (arith, G .shape .prices-long, G .shape .tracks-few), λ k h. G .numbers .price-in k (omega (arith, G .shape .prices-long))))
 
 same-length : tie.Need-same-length Inv-loop μ-loop
 same-length c = search needs

@@ -28,12 +28,12 @@ returns c = search needs
 raise-paired-requires : tie.Need-raise-paired-requires
 raise-paired-requires c κs =
     let G = c .before .before .before .before .before .before .before .before .before .before .before .before .before .pre .good in
-    (omega (arith, G .shape .owner-long, G .shape .discounts-long), λ k h. omega (arith, G .P .discount-in k (omega (arith, G .shape .discounts-long)), c .before .before .lesser .ensures .1 .0))
+    (omega (arith, G .shape .owner-long, G .shape .discounts-long), λ k h. omega (arith, G .numbers .discount-in k (omega (arith, G .shape .discounts-long)), c .before .before .lesser .ensures .1 .0))
 
 raise-paired-requires-2 : tie.Need-raise-paired-requires-2
 raise-paired-requires-2 c κs =
     let G = c .before .before .before .before .before .before .before .before .before .before .before .before .before .before .before .before .before .pre .good in
-    (G .shape .pairing-long, λ k h. omega (arith, G .P .price-in k h, c .before .before .before .before .before .before .lesser .ensures .1 .0))
+    (G .shape .pairing-long, λ k h. omega (arith, G .numbers .price-in k h, c .before .before .before .before .before .before .lesser .ensures .1 .0))
 
 spend-requires : tie.Need-spend-requires
 spend-requires c κs = search needs

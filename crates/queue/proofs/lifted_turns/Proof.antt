@@ -1,5 +1,6 @@
 use Rattle.queue.proofs.Rise.{lifting-at}
-use Rattle.queue.specs.State.{Lifting, Rooms}
+use Rattle.queue.specs.State.{Lifting}
+use Rattle.paths.specs.State.{Rooms}
 use mathlib.Core.Path.{sym}
 use Prim.Native.Nat.{_≤_, _-_}
 use lib.ListN.{length}
@@ -20,7 +21,7 @@ loop-holds c = (c .before .before .before .before .before .before .before .befor
 next-turn-requires : tie.Need-next-turn-requires Inv-loop μ-loop
 next-turn-requires c κs =
     let G = c .before .before .before .loop .inv .0 .good in
-    (omega (arith, G .shape .pairing-long, G .shape .prices-long), (omega (arith, G .shape .prices-long, G .shape .tracks-few), λ k h. G .P .price-in k (omega (arith, G .shape .prices-long))))
+    (omega (arith, G .shape .pairing-long, G .shape .prices-long), (omega (arith, G .shape .prices-long, G .shape .tracks-few), λ k h. G .numbers .price-in k (omega (arith, G .shape .prices-long))))
 
 same-length : tie.Need-same-length Inv-loop μ-loop
 same-length c = search needs
