@@ -319,10 +319,11 @@ pub fn insert(
         via,
         closings,
     );
-    raise_cols(labels, f.d, discounts);
-    raise_rows(pairing, owner, labels, f.d, prices);
+    let d = f.d;
+    raise_cols(labels, d, discounts);
+    raise_rows(pairing, owner, labels, d, prices);
     let x = idx(track);
-    prices[x] = prices[x] + f.d;
+    prices[x] = prices[x] + d;
     finish(
         sheet,
         reports,
@@ -337,7 +338,7 @@ pub fn insert(
         owner,
     );
     Reach {
-        d: f.d,
+        d: d,
         steps: f.steps,
     }
 }
