@@ -8,7 +8,7 @@ use lib.ListN.{length, set, length-set}
 use lib.Seq.{getD-set-same, getD-set-other}
 use Rattle.laws.specs.Lists.{at}
 use Rattle.matching.specs.Pairing.{none, leftOut}
-use Rattle.passes.specs.Cells.{far, IsCell, mostColumns}
+use Rattle.passes.specs.Cells.{far, IsCell, reportNumbers}
 use Rattle.paths.specs.State.{cell, Shape, Own, Match, Good, Done, Searchable, Inserted}
 use Rattle.engine.specs.State.{Fresh, Contest, Claimed, Visit}
 use Rattle.queue.proofs.Rise.{good-len}
@@ -74,7 +74,7 @@ module _ (cells : List ℕ) (m n track : ℕ) (pairing owner prices discounts : 
 
 -- the part of the sheet that claim reads
 module _ (cells : List ℕ) (m track : ℕ) (pairing owner prices discounts : List ℕ) (F : Fresh cells m track pairing owner prices discounts) (x : ℕ) (ex : x ≡ track) where
-  pub claim-cells : (length (row cells m x) ≤ mostColumns) × ((k : ℕ) → k < length (row cells m x) → IsCell (at (row cells m x) k))
+  pub claim-cells : (length (row cells m x) ≤ reportNumbers) × ((k : ℕ) → k < length (row cells m x) → IsCell (at (row cells m x) k))
   claim-cells =
       let h : x < length prices = omega (arith, F .track-in) in
       let l = F .good .shape .cells-long in
@@ -125,7 +125,7 @@ module _ (cells : List ℕ) (m track : ℕ) (pairing owner prices discounts : Li
         good = good-len cells m n pairing owner (set prices x v) discounts (rw ex (priced cells m n track pairing owner prices discounts (F .good) (F .track-in) (F .unpaired) v vM vr));
         track-in = omega (arith, len1, F .track-in);
         unpaired = F .unpaired;
-        hole-in = g;
+        report-in = g;
         admissible = omega arith;
         tight = omega (arith, ap (at (set prices x v)) (sym ex), getD-set-same prices x v 0 (omega (arith, F .track-in)), F .zero h g);
       }
@@ -150,10 +150,10 @@ module _ (cells : List ℕ) (m track h : ℕ) (pairing owner prices discounts : 
     pairing1 = set pairing o none
 
     own : Own cells m (length prices) pairing prices discounts h o
-    own = ⊎-elim (λ z. absurd (omega (arith, z .0, C .good .shape .tracks-few))) (λ y. y) (C .good .matched .owned h (C .hole-in) (λ e. omega (arith, C .hole-in, C .good .shape .reports-few)))
+    own = ⊎-elim (λ z. absurd (omega (arith, z .0, C .good .shape .tracks-few))) (λ y. y) (C .good .matched .owned h (C .report-in) (λ e. omega (arith, C .report-in, C .good .shape .reports-few)))
 
     om : at pairing o < m
-    om = omega (arith, own .back, C .hole-in)
+    om = omega (arith, own .back, C .report-in)
 
     hole1 : Match cells m (length prices) pairing1 owner prices discounts h
     hole1 = (rw (own .back) at (vacated cells m (length prices) prices discounts pairing owner (C .good .shape) (C .good .matched) o on om))
@@ -167,9 +167,9 @@ module _ (cells : List ℕ) (m track h : ℕ) (pairing owner prices discounts : 
     won : Claimed cells m (length prices) track pairing (set pairing1 track h) (set owner h track) prices discounts
     won = record {
       good = record {
-        shape = shape' cells m (length prices) prices discounts pairing1 owner shape-1 h (C .hole-in) hole1 track (C .track-in) (C .admissible) (C .tight);
+        shape = shape' cells m (length prices) prices discounts pairing1 owner shape-1 h (C .report-in) hole1 track (C .track-in) (C .admissible) (C .tight);
         numbers = C .good .numbers;
-        matched = (rw (left track (C .unpaired)) at (refit cells m (length prices) prices discounts pairing1 owner shape-1 h (C .hole-in) hole1 track (C .track-in) (C .admissible) (C .tight)));
+        matched = (rw (left track (C .unpaired)) at (refit cells m (length prices) prices discounts pairing1 owner shape-1 h (C .report-in) hole1 track (C .track-in) (C .admissible) (C .tight)));
       };
       others = λ i d z. getD-set-other pairing1 track i h 0 d ∙ left i z;
     }

@@ -16,13 +16,13 @@ pub record Fresh (cells : List ℕ) (m track : ℕ) (pairing owner prices discou
   pub zero : (j : ℕ) → j < m → at discounts j ≡ 0
 
 -- a track that is in no pair, and a report of its price
-pub record Contest (cells : List ℕ) (m track h : ℕ) (pairing owner prices discounts : List ℕ) : Type 0 where
+pub record Contest (cells : List ℕ) (m track report : ℕ) (pairing owner prices discounts : List ℕ) : Type 0 where
   pub good : Good cells m (length prices) pairing owner prices discounts
   pub track-in : track < length prices
   pub unpaired : at pairing track ≡ none
-  pub hole-in : h < m
-  pub admissible : cell cells m track h < far
-  pub tight : at prices track ≡ cell cells m track h + at discounts h
+  pub report-in : report < m
+  pub admissible : cell cells m track report < far
+  pub tight : at prices track ≡ cell cells m track report + at discounts report
 
 pub record Claimed (cells : List ℕ) (m n track : ℕ) (pairing pairing' owner' prices' discounts : List ℕ) : Type 0 where
   pub good : Good cells m n pairing' owner' prices' discounts

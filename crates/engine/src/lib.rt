@@ -1,6 +1,5 @@
-// The pairing of any sheet, with the prices and discounts that show it best. Each track takes the report of its least score if it is
-// free or a less exacting track's; then each track without one is inserted by one search, after which prices rise once and the pairing
-// changes along one chain.
+// The pairing of any sheet, with the prices and discounts that show it best: each track claims the report of its least score, and
+// one that gets none is inserted by one search.
 use matching::LEFT_OUT;
 use matching::NONE;
 use passes::fill;
@@ -27,22 +26,22 @@ pub enum Paired {
     Done,
 }
 
-// Report h has the track's least score, and goes to it from a track of lower price.
+// The report has the track's least score, and goes to it from a track of lower price.
 fn oust(
     sheet: &[u32],
     reports: usize,
     track: u32,
-    h: u32,
+    report: u32,
     pairing: &mut [u32],
     owner: &mut [u32],
     prices: &[u32],
     discounts: &[u32],
 )
-    requires { ⌜ Contest (now sheet) reports track h (now pairing) (now owner) (now prices) (now discounts) ⌝ }
+    requires { ⌜ Contest (now sheet) reports track report (now pairing) (now owner) (now prices) (now discounts) ⌝ }
     ensures { λ _. ⌜ Claimed (now (sheet .entry)) reports (length (now (prices .entry))) track (now (pairing .entry)) (now (pairing .exit)) (now (owner .exit)) (now (prices .entry)) (now (discounts .entry)) ⌝ }
 {
     let x = idx(track);
-    let j = idx(h);
+    let j = idx(report);
     let y = idx(owner[j]);
     if y >= prices.len() {
         return;
@@ -51,7 +50,7 @@ fn oust(
         return;
     }
     pairing[y] = NONE;
-    pairing[x] = h;
+    pairing[x] = report;
     owner[j] = track;
 }
 
@@ -88,7 +87,8 @@ fn claim(
     owner[j] = track;
 }
 
-fn start(
+// Every track claims in turn.
+fn claim_all(
     sheet: &[u32],
     reports: usize,
     pairing: &mut [u32],
@@ -114,7 +114,7 @@ fn start(
     }
 }
 
-// A track that is paired, or has no admissible report, needs no search.
+// A track that is paired, or left out at the full price, needs no search.
 fn visit(
     sheet: &[u32],
     reports: usize,
@@ -188,7 +188,7 @@ fn match_all(
     ensures { λ _. ⌜ Good (now (sheet .entry)) reports (length (now (prices .entry))) (now (pairing .exit)) (now (owner .exit)) (now (prices .exit)) (now (discounts .exit)) ⌝ }
 {
     clear(sheet, reports, pairing, owner, prices, discounts);
-    start(sheet, reports, pairing, owner, prices, discounts);
+    claim_all(sheet, reports, pairing, owner, prices, discounts);
     take_turns(
         sheet,
         reports,
@@ -230,7 +230,7 @@ fn assign(
         closings,
         slack,
     );
-    // No track waits by now: this walk shows it.
+    // By now each track has a report or is left out: this walk shows it.
     let mut track: usize = 0;
     while track < prices.len() {
         visit(

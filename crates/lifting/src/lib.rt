@@ -86,7 +86,7 @@ pub fn least_slack(owner: &[u32], slack: &[u32]) -> u32
     best
 }
 
-// All prices have risen by x.
+// The prices of all pairs have risen by x.
 pub fn spend(slack: &mut [u32], x: u32)
     requires { ⌜ (x ≤ leftOut) × Small (now slack) ⌝ }
     ensures { λ _. ⌜ Spent x (now (slack .entry)) (now (slack .exit)) ⌝ }
@@ -129,7 +129,7 @@ pub fn highest(a: &[u32]) -> u32
     best
 }
 
-fn if_waiting(pairing: u32, price: u32, turn: u32) -> u32
+fn if_unpaired(pairing: u32, price: u32, turn: u32) -> u32
     requires { ⌜ price ≤ leftOut ⌝ }
     ensures { λ r. ⌜ (r ≤ turn) × (0 < r → (r ≡ turn) × (pairing ≡ none)) ⌝ }
 {
@@ -148,7 +148,7 @@ fn turn_of(price: u32, track: u32) -> u32
     price % TURN_PRICES * TURN_TRACKS + track + 1
 }
 
-// One more than the track of highest price, the most exacting, of those that wait for a report; 0 if none waits.
+// One more than the track of highest price, the most exacting, of those without a report; 0 if there is none.
 pub fn next_turn(pairing: &[u32], prices: &[u32]) -> u32
     requires { ⌜ (length (now pairing) ≡ length (now prices)) × ((length (now prices) ≤ mostTracks) × Small (now prices)) ⌝ }
     ensures { λ r. ⌜ (0 < r → (r - 1 < length (now (prices .entry))) × (at (now (pairing .entry)) (r - 1) ≡ none)) ⌝ }
@@ -157,7 +157,7 @@ pub fn next_turn(pairing: &[u32], prices: &[u32]) -> u32
     let mut j: usize = 0;
     while j < prices.len() {
         let v = prices[j];
-        best = high(if_waiting(pairing[j], v, turn_of(v, j as u32)), best);
+        best = high(if_unpaired(pairing[j], v, turn_of(v, j as u32)), best);
         j += 1;
     }
     if best == 0 {

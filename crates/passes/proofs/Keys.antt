@@ -1,4 +1,4 @@
--- Signed tests of small numbers; score and column in one number.
+-- Signed tests of small numbers; score and report in one number.
 use Prim.Native.Nat.{ℕ, _+_, _*_, _/_, _%_, _≤_, _<_, _^_}
 use mathlib.Core.Path.{_≡_, refl, sym, subst}
 use mathlib.Core.Bool.{true, false, not}
@@ -59,7 +59,7 @@ module _ (c : List ℕ) (small : length c ≤ 256) (cs : (k : ℕ) → k < lengt
     met = λ g. ⊎-elim (λ e. absurd (omega arith)) (λ s. here h (s .0) (s .1 .0) (s .1 .1)) (K .met);
   }
 
--- ---- labels and columns in one number
+-- ---- labels and reports in one number
 
 pub near-low : (r b x : ℕ) → r ≤ b → b / 256 ≤ x → r / 256 ≤ x
 near-low r b x h g = omega arith

@@ -11,19 +11,19 @@ use Rattle.matching.specs.Pairing.{none, scoreEnd, leftOut}
 abbrev pub far : ℕ
 far = 2 ^ 30
 
--- more columns than a sheet has
-abbrev pub mostColumns : ℕ
-mostColumns = 256
+-- more than the reports of a sheet
+abbrev pub reportNumbers : ℕ
+reportNumbers = 256
 
 -- a cell: a score, or none
 abbrev pub IsCell : ℕ → Type 0
 IsCell c = (c < scoreEnd) ⊎ (c ≡ none)
 
--- a label od with parent op becomes nd, np by the offer of track i at label d
-pub record Step (cell discount d price i od op nd np : ℕ) : Type 0 where
-  pub less : nd ≤ od
-  pub reach : cell < far → price + nd ≤ d + cell + discount
-  pub why : ((nd ≡ od) × (np ≡ op)) ⊎ ((cell < far) × ((nd + price ≡ d + cell + discount) × ((nd < od) × (np ≡ i))))
+-- a label, reached via a track, becomes label' and via' by the offer of track i at label d
+pub record Step (cell discount d price i label via label' via' : ℕ) : Type 0 where
+  pub less : label' ≤ label
+  pub reach : cell < far → price + label' ≤ d + cell + discount
+  pub why : ((label' ≡ label) × (via' ≡ via)) ⊎ ((cell < far) × ((label' + price ≡ d + cell + discount) × ((label' < label) × (via' ≡ i))))
 
 -- what relax asks of its lists
 pub record Fair (cells discounts labels via : List ℕ) (d price : ℕ) : Type 0 where
@@ -42,10 +42,10 @@ pub record Relaxed (cells discounts : List ℕ) (d price i : ℕ) (labels via la
   pub via-long : length via' ≡ length labels
   pub steps : (k : ℕ) → k < length labels → Step (at cells k) (at discounts k) d price i (at labels k) (at via k) (at labels' k) (at via' k)
 
--- labels, and a mark a report: 0 while it is open
+-- labels, and a closing a report: 0 while it is open
 pub record Labels (labels closings : List ℕ) : Type 0 where
   pub same : length closings ≡ length labels
-  pub few : length labels ≤ mostColumns
+  pub few : length labels ≤ reportNumbers
   pub small : (k : ℕ) → k < length labels → at labels k + at closings k < 2 ^ 31
 
 -- and the reports before lo are closed
@@ -67,14 +67,14 @@ pub record Found (labels closings : List ℕ) (v r : ℕ) : Type 0 where
   pub here : r < length labels → at labels r + at closings r ≡ v
   pub before : (k : ℕ) → k < r → at labels k + at closings k ≡ v → ⊥
 
--- a label below this fits one number with its column
+-- a label below this fits one number with its report
 abbrev pub near : ℕ
 near = 8388607
 
--- r is no more than any label, and below near it is one, with its column
+-- r is no more than any label, and below near it is one, with its report
 pub record Near (labels closings : List ℕ) (r : ℕ) : Type 0 where
-  pub below : (k : ℕ) → k < length labels → r / mostColumns ≤ at labels k + at closings k
-  pub met : r / mostColumns < near → (r % mostColumns < length labels) × (at labels (r % mostColumns) + at closings (r % mostColumns) ≡ r / mostColumns)
+  pub below : (k : ℕ) → k < length labels → r / reportNumbers ≤ at labels k + at closings k
+  pub met : r / reportNumbers < near → (r % reportNumbers < length labels) × (at labels (r % reportNumbers) + at closings (r % reportNumbers) ≡ r / reportNumbers)
 
 -- a nearest open report below cap, or the length
 pub record Nearest (labels closings : List ℕ) (cap j : ℕ) : Type 0 where
@@ -85,9 +85,9 @@ pub record Nearest (labels closings : List ℕ) (cap j : ℕ) : Type 0 where
 
 -- ---- the least score of a row
 
--- score and column in one number: none comes after every score
+-- score and report in one number: none comes after every score
 unfoldable pub key : ℕ → ℕ → ℕ
-key cell k = cell % 8388608 * mostColumns + k
+key cell k = cell % 8388608 * reportNumbers + k
 
 -- r is the least key
 pub record Keyed (cells : List ℕ) (r : ℕ) : Type 0 where
@@ -102,7 +102,7 @@ pub record RowLeast (cells : List ℕ) (v a : ℕ) : Type 0 where
 
 -- ---- prices and discounts after a search that ends at D
 
--- what raise_rows asks: a report nearer than D is its owner's
+-- what raise_prices asks: a report nearer than D is its owner's
 pub record Paid (pairing owner labels prices : List ℕ) (D : ℕ) : Type 0 where
   pub owner-long : length owner ≡ length labels
   pub small : (i : ℕ) → i < length prices → at prices i + D < 2 ^ 32
@@ -115,10 +115,10 @@ pub record Lifted (prices : List ℕ) (o x : ℕ) (prices' : List ℕ) : Type 0 
   pub others : (k : ℕ) → (k ≡ o → ⊥) → at prices' k ≡ at prices k
   pub here : at prices' o ≡ at prices o + x
 
-pub record RowsUp (pairing labels : List ℕ) (D : ℕ) (prices prices' : List ℕ) : Type 0 where
+pub record PricesUp (pairing labels : List ℕ) (D : ℕ) (prices prices' : List ℕ) : Type 0 where
   pub prices-long : length prices' ≡ length prices
   pub up : (i : ℕ) → i < length prices → (at pairing i < length labels → at prices' i ≡ at prices i + (D - at labels (at pairing i))) × (length labels ≤ at pairing i → at prices' i ≡ at prices i)
 
-pub record ColsUp (labels : List ℕ) (D : ℕ) (discounts discounts' : List ℕ) : Type 0 where
+pub record DiscountsUp (labels : List ℕ) (D : ℕ) (discounts discounts' : List ℕ) : Type 0 where
   pub discounts-long : length discounts' ≡ length discounts
   pub up : (j : ℕ) → j < length discounts → at discounts' j ≡ at discounts j + (D - at labels j)

@@ -9,17 +9,17 @@ ghost use lib.ListN.{length};
 ghost use mathlib.Core.Logic.{_⊎_};
 ghost use Rattle.laws.specs.Lists.{at};
 ghost use Rattle.matching.specs.Pairing.{none, leftOut};
-ghost use Rattle.passes.specs.Cells.{IsCell, far, mostColumns, key, Keyed, RowLeast, Fair, Relaxed, Labels, FromLabels, Low, Found, near, Near, Nearest, Paid, Lifted, RowsUp, ColsUp};
+ghost use Rattle.passes.specs.Cells.{IsCell, far, reportNumbers, key, Keyed, RowLeast, Fair, Relaxed, Labels, FromLabels, Low, Found, near, Near, Nearest, Paid, Lifted, PricesUp, DiscountsUp};
 
 // Above every label, and above what an admissible pair adds to one.
 pub const FAR: u32 = 1073741824;
-// More columns than a sheet has: a score and its column fit one number.
-const MOST_COLUMNS: u32 = 256;
+// More than the reports of a sheet: a score and its report fit one number.
+const REPORT_NUMBERS: u32 = 256;
 
 const KEY_SCORES: u32 = 8388608;
 
 const LAST_KEY: u32 = 2147483647;
-// A label below this fits one number with its column.
+// A label below this fits one number with its report.
 const NEAR: u32 = 8388607;
 
 // The least score of a row, and a report that has it.
@@ -94,11 +94,11 @@ pub fn relax(
 {
     let mut j: usize = 0;
     while j < labels.len() {
-        let nd = offer(cells[j], discounts[j], label, price);
-        let od = labels[j];
-        let op = via[j];
-        labels[j] = low(nd, od);
-        via[j] = pick(nd, od, track, op);
+        let offered = offer(cells[j], discounts[j], label, price);
+        let before = labels[j];
+        let via_before = via[j];
+        labels[j] = low(offered, before);
+        via[j] = pick(offered, before, track, via_before);
         j += 1;
     }
 }
@@ -145,12 +145,12 @@ fn far_nearest(labels: &[u32], closings: &[u32], cap: u32) -> usize
     }
 }
 
-// A label and its column in one number; labels from NEAR on count alike.
+// A label and its report in one number; labels from NEAR on count alike.
 fn near_of(label: u32, j: u32) -> u32
-    requires { ⌜ (label < 2 ^ 31) × (j < mostColumns) ⌝ }
-    ensures { λ r. ⌜ (label < near → r ≡ label * mostColumns + j) × ((near ≤ label → r ≡ near * mostColumns + j) × (r < 2 ^ 31)) ⌝ }
+    requires { ⌜ (label < 2 ^ 31) × (j < reportNumbers) ⌝ }
+    ensures { λ r. ⌜ (label < near → r ≡ label * reportNumbers + j) × ((near ≤ label → r ≡ near * reportNumbers + j) × (r < 2 ^ 31)) ⌝ }
 {
-    low(label, NEAR) * MOST_COLUMNS + j
+    low(label, NEAR) * REPORT_NUMBERS + j
 }
 
 fn near_key(labels: &[u32], closings: &[u32]) -> u32
@@ -166,20 +166,20 @@ fn near_key(labels: &[u32], closings: &[u32]) -> u32
     best
 }
 
-// The same; where a label is near, one pass finds it and its column.
+// As far_nearest; where a label is near, one pass finds it and its report.
 fn nearest(labels: &[u32], closings: &[u32], cap: u32) -> usize
     requires { ⌜ Labels (now labels) (now closings) × (cap < 2 ^ 31) ⌝ }
     ensures { λ r. ⌜ Nearest (now (labels .entry)) (now (closings .entry)) cap r ⌝ }
 {
     let k = near_key(labels, closings);
-    let v = k / MOST_COLUMNS;
+    let v = k / REPORT_NUMBERS;
     if v >= NEAR {
         return far_nearest(labels, closings, cap);
     }
     if v >= cap {
         return labels.len();
     }
-    idx(k % MOST_COLUMNS)
+    idx(k % REPORT_NUMBERS)
 }
 
 // The same from `lo` on, where the reports before are closed.
@@ -212,7 +212,7 @@ fn over(d: u32, x: u32) -> u32
     if x < d { d - x } else { 0 }
 }
 
-fn topup(prices: &mut [u32], o: u32, x: u32)
+fn raise_one(prices: &mut [u32], o: u32, x: u32)
     requires { ⌜ (x ≡ 0) ⊎ ((o < length (now prices)) × (at (now prices) o + x < 2 ^ 32)) ⌝ }
     ensures { λ _. ⌜ Lifted (now (prices .entry)) o x (now (prices .exit)) ⌝ }
 {
@@ -223,21 +223,21 @@ fn topup(prices: &mut [u32], o: u32, x: u32)
 }
 
 // A track whose report lies nearer than d pays the difference. `pairing` is for the contract only.
-pub fn raise_rows(pairing: &[u32], owner: &[u32], labels: &[u32], d: u32, prices: &mut [u32])
+pub fn raise_prices(pairing: &[u32], owner: &[u32], labels: &[u32], d: u32, prices: &mut [u32])
     requires { ⌜ Paid (now pairing) (now owner) (now labels) (now prices) d ⌝ }
-    ensures { λ r. ⌜ RowsUp (now (pairing .entry)) (now (labels .entry)) d (now (prices .entry)) (now (prices .exit)) ⌝ }
+    ensures { λ r. ⌜ PricesUp (now (pairing .entry)) (now (labels .entry)) d (now (prices .entry)) (now (prices .exit)) ⌝ }
 {
     let mut j: usize = 0;
     while j < labels.len() {
-        topup(prices, owner[j], over(d, labels[j]));
+        raise_one(prices, owner[j], over(d, labels[j]));
         j += 1;
     }
 }
 
 // And its report's discount rises by as much.
-pub fn raise_cols(labels: &[u32], d: u32, discounts: &mut [u32])
+pub fn raise_discounts(labels: &[u32], d: u32, discounts: &mut [u32])
     requires { ⌜ (length (now labels) ≡ length (now discounts)) × ((j : ℕ) → j < length (now discounts) → at (now discounts) j + d < 2 ^ 32) ⌝ }
-    ensures { λ r. ⌜ ColsUp (now (labels .entry)) d (now (discounts .entry)) (now (discounts .exit)) ⌝ }
+    ensures { λ r. ⌜ DiscountsUp (now (labels .entry)) d (now (discounts .entry)) (now (discounts .exit)) ⌝ }
 {
     let mut j: usize = 0;
     while j < discounts.len() {
@@ -246,16 +246,16 @@ pub fn raise_cols(labels: &[u32], d: u32, discounts: &mut [u32])
     }
 }
 
-// Score and column in one number.
+// Score and report in one number.
 fn key_of(cell: u32, j: u32) -> u32
-    requires { ⌜ j < mostColumns ⌝ }
+    requires { ⌜ j < reportNumbers ⌝ }
     ensures { λ r. ⌜ (r ≡ key cell j) × (r < 2 ^ 31) ⌝ }
 {
-    cell % KEY_SCORES * MOST_COLUMNS + j
+    cell % KEY_SCORES * REPORT_NUMBERS + j
 }
 
 fn row_key(cells: &[u32]) -> u32
-    requires { ⌜ length (now cells) ≤ mostColumns ⌝ }
+    requires { ⌜ length (now cells) ≤ reportNumbers ⌝ }
     ensures { λ r. ⌜ Keyed (now (cells .entry)) r ⌝ }
 {
     let mut best: u32 = LAST_KEY;
@@ -269,11 +269,11 @@ fn row_key(cells: &[u32]) -> u32
 
 // The least score of a row and its report, or LEFT_OUT.
 pub fn row_best(cells: &[u32]) -> Cheapest
-    requires { ⌜ (length (now cells) ≤ mostColumns) × ((k : ℕ) → k < length (now cells) → IsCell (at (now cells) k)) ⌝ }
+    requires { ⌜ (length (now cells) ≤ reportNumbers) × ((k : ℕ) → k < length (now cells) → IsCell (at (now cells) k)) ⌝ }
     ensures { λ r. ⌜ RowLeast (now (cells .entry)) (r .score) (r .report) ⌝ }
 {
     let k = row_key(cells);
-    let v = k / MOST_COLUMNS;
+    let v = k / REPORT_NUMBERS;
     if v >= SCORE_END {
         return Cheapest {
             score: LEFT_OUT,
@@ -282,14 +282,14 @@ pub fn row_best(cells: &[u32]) -> Cheapest
     }
     Cheapest {
         score: v,
-        report: k % MOST_COLUMNS,
+        report: k % REPORT_NUMBERS,
     }
 }
 
 // Report j, if it has score v and no track has it.
 fn seat_key(cell: u32, owner: u32, v: u32, j: u32) -> u32
-    requires { ⌜ j < mostColumns ⌝ }
-    ensures { λ r. ⌜ (r < 2 ^ 31) × (r < mostColumns → (r ≡ j) × ((cell ≡ v) × (owner ≡ none))) ⌝ }
+    requires { ⌜ j < reportNumbers ⌝ }
+    ensures { λ r. ⌜ (r < 2 ^ 31) × (r < reportNumbers → (r ≡ j) × ((cell ≡ v) × (owner ≡ none))) ⌝ }
 {
     if cell == v {
         if owner == NONE {
@@ -301,7 +301,7 @@ fn seat_key(cell: u32, owner: u32, v: u32, j: u32) -> u32
 
 // The first report of score v that no track has, or a number beyond all: a loop with no way out goes by vectors.
 fn tight_free(cells: &[u32], owner: &[u32], v: u32) -> u32
-    requires { ⌜ (length (now owner) ≡ length (now cells)) × (length (now cells) ≤ mostColumns) ⌝ }
+    requires { ⌜ (length (now owner) ≡ length (now cells)) × (length (now cells) ≤ reportNumbers) ⌝ }
     ensures { λ r. ⌜ (r < length (now (cells .entry)) → (at (now (cells .entry)) r ≡ v) × (at (now (owner .entry)) r ≡ none)) ⌝ }
 {
     let mut best: u32 = LAST_KEY;
@@ -315,7 +315,7 @@ fn tight_free(cells: &[u32], owner: &[u32], v: u32) -> u32
 
 // Report h, of score v, if no track has it, or another such report, or a number beyond all.
 pub fn seat(cells: &[u32], owner: &[u32], v: u32, h: u32) -> usize
-    requires { ⌜ (length (now owner) ≡ length (now cells)) × ((length (now cells) ≤ mostColumns) × ((h < length (now cells)) × (at (now cells) h ≡ v))) ⌝ }
+    requires { ⌜ (length (now owner) ≡ length (now cells)) × ((length (now cells) ≤ reportNumbers) × ((h < length (now cells)) × (at (now cells) h ≡ v))) ⌝ }
     ensures { λ r. ⌜ (r < length (now (cells .entry)) → (at (now (cells .entry)) r ≡ v) × (at (now (owner .entry)) r ≡ none)) ⌝ }
 {
     let hh = idx(h);

@@ -10,20 +10,20 @@ use lib.Seq.{getD-set-same, getD-set-other}
 use Rattle.laws.specs.Lists.{at}
 use Rattle.matching.specs.Pairing.{leftOut}
 use Rattle.passes.specs.Cells.{far}
-use Rattle.paths.specs.State.{cell, zeros, Prices, Own, Closed, Link, Tree, Scanned}
+use Rattle.paths.specs.State.{cell, openCount, Prices, Own, Closed, Link, Tree, Scanned}
 use Rattle.laws.proofs.Stores.{same-or}
 
-pub zeros-set : (xs : List ℕ) (j v : ℕ) → j < length xs → at xs j ≡ 0 → 0 < v → zeros (set xs j v) + 1 ≡ zeros xs
-unfolding zeros
-zeros-set [] j v h z p = absurd (not-suc-le-zero h)
-zeros-set (x ∷ xs) zero (suc v) h z p = rw z (omega arith)
-zeros-set (x ∷ xs) zero zero h z p = absurd (not-suc-le-zero p)
-zeros-set (x ∷ xs) (suc j) v h z p = omega (arith, zeros-set xs j v (le-of-suc-le-suc h) z p)
+pub open-count-set : (xs : List ℕ) (j v : ℕ) → j < length xs → at xs j ≡ 0 → 0 < v → openCount (set xs j v) + 1 ≡ openCount xs
+unfolding openCount
+open-count-set [] j v h z p = absurd (not-suc-le-zero h)
+open-count-set (x ∷ xs) zero (suc v) h z p = rw z (omega arith)
+open-count-set (x ∷ xs) zero zero h z p = absurd (not-suc-le-zero p)
+open-count-set (x ∷ xs) (suc j) v h z p = omega (arith, open-count-set xs j v (le-of-suc-le-suc h) z p)
 
-pub zeros-all : (xs : List ℕ) → ((k : ℕ) → k < length xs → at xs k ≡ 0) → zeros xs ≡ length xs
-unfolding zeros
-zeros-all [] f = refl
-zeros-all (x ∷ xs) f = rw (f zero (omega arith)) (omega (arith, zeros-all xs (λ k h. f (suc k) (omega arith))))
+pub open-count-all : (xs : List ℕ) → ((k : ℕ) → k < length xs → at xs k ≡ 0) → openCount xs ≡ length xs
+unfolding openCount
+open-count-all [] f = refl
+open-count-all (x ∷ xs) f = rw (f zero (omega arith)) (omega (arith, open-count-all xs (λ k h. f (suc k) (omega arith))))
 
 -- report j is closed
 module _ {cells : List ℕ} {m n : ℕ} {pairing owner prices discounts : List ℕ} {track leaving leaver k : ℕ} {labels via closings : List ℕ}
@@ -94,7 +94,7 @@ module _ {cells : List ℕ} {m n : ℕ} {pairing owner prices discounts : List �
     offered : (e : ℕ) → e < m → (at labels' e ≡ at labels e) ⊎ (at labels j ≤ at labels' e)
     offered e h = ⊎-elim (λ s. inl (s .0)) (λ s. inr (omega (arith, s .1 .0, P .fair o e (own .there) h (s .0)))) (S .steps e h .why)
 
-    -- a label at or below j's stays, with its parent
+    -- a label at or below j's stays, and so does its via
     stays : (e : ℕ) → e < m → at labels e ≤ at labels j → (at labels' e ≡ at labels e) × (at via' e ≡ at via e)
     stays e h l = ⊎-elim (λ s. s) (λ s. absurd (omega (arith, s .1 .0, s .1 .1 .0, P .fair o e (own .there) h (s .0)))) (S .steps e h .why)
 
@@ -201,5 +201,5 @@ module _ {cells : List ℕ} {m n : ℕ} {pairing owner prices discounts : List �
       leaving-in = omega (arith, T .leaving-in);
       last = last';
       links = links';
-      count = omega (arith, T .count, zeros-set closings j (far + k) (omega (arith, T .closings-long)) jo (omega arith));
+      count = omega (arith, T .count, open-count-set closings j (far + k) (omega (arith, T .closings-long)) jo (omega arith));
     }

@@ -11,20 +11,20 @@ use lib.ListN.{length, set, length-set}
 use Rattle.laws.specs.Lists.{at}
 use Rattle.matching.specs.Pairing.{none, leftOut}
 use Rattle.passes.specs.Cells.{far, FromLabels}
-use Rattle.paths.specs.State.{Own, Good, Tree, Front, Standing, isTaken, Scanned, Scannable, Searchable, Ended}
+use Rattle.paths.specs.State.{Own, Good, Tree, Front, Standing, isTaken, Endable, EndsAt, Scanned, Scannable, Searchable, Ended}
 use Rattle.laws.proofs.Stores.{le-or-lt}
 use Rattle.laws.proofs.Tests.{and-both, and-left, and-right, clash}
-use Rattle.paths.proofs.Advance.{advance, zeros-all, closings-j, low-now, still, open-or-closed', link-closed}
+use Rattle.paths.proofs.Advance.{advance, open-count-all, closings-j, low-now, still, open-or-closed', link-closed}
 
 -- what fill gives: each entry of the list is v
-abbrev Filled : List ℕ → List ℕ → ℕ → Type 0
-Filled xs ys v = (length ys ≡ length xs) × ((k : ℕ) → k < length xs → at ys k ≡ v)
+abbrev AllAre : List ℕ → List ℕ → ℕ → Type 0
+AllAre xs ys v = (length ys ≡ length xs) × ((k : ℕ) → k < length xs → at ys k ≡ v)
 
 pub front-none : (m : ℕ) (closings : List ℕ) → Front 0 m closings
 front-none m closings = record { upto = omega arith; closed = λ e h. absurd (omega arith) }
 
-module _ {cells : List ℕ} {m track : ℕ} {pairing owner prices discounts d0 p0 s0 : List ℕ} (R : Searchable cells m track pairing owner prices discounts d0 p0 s0) where
-  pub fit-root : {d1 : List ℕ} → Filled d0 d1 leftOut → Scannable cells m 0 track 0 prices discounts d1 p0
+module _ {cells : List ℕ} {m track : ℕ} {pairing owner prices discounts labels0 via0 closings0 : List ℕ} (R : Searchable cells m track pairing owner prices discounts labels0 via0 closings0) where
+  pub fit-root : {labels1 : List ℕ} → AllAre labels0 labels1 leftOut → Scannable cells m 0 track 0 prices discounts labels1 via0
   fit-root f = record {
     first-in = omega arith;
     before = λ e h. absurd (omega arith);
@@ -39,9 +39,9 @@ module _ {cells : List ℕ} {m track : ℕ} {pairing owner prices discounts d0 p
     labels-in = λ j h. omega (arith, f .1 j (omega (arith, R .rooms .labels-long)));
   }
 
-  pub plant : {x : ℕ} {d1 d2 p2 s1 : List ℕ} → x ≡ track → Filled d0 d1 leftOut → Filled s0 s1 0 → Scanned cells m discounts 0 (at prices track) track d1 p0 d2 p2
-      → Tree cells m (length prices) pairing owner prices discounts track (leftOut - at prices x) track 0 d2 p2 s1
-  plant {x} {d1} {d2} {p2} {s1} q f g S = record {
+  pub plant : {x : ℕ} {labels1 labels2 via2 closings1 : List ℕ} → x ≡ track → AllAre labels0 labels1 leftOut → AllAre closings0 closings1 0 → Scanned cells m discounts 0 (at prices track) track labels1 via0 labels2 via2
+      → Tree cells m (length prices) pairing owner prices discounts track (leftOut - at prices x) track 0 labels2 via2 closings1
+  plant {x} {labels1} {labels2} {via2} {closings1} q f g S = record {
     labels-long = S .labels-long;
     via-long = S .via-long;
     closings-long = g .0 ∙ R .rooms .closings-long;
@@ -55,13 +55,13 @@ module _ {cells : List ℕ} {m track : ℕ} {pairing owner prices discounts d0 p
     last = inl (refl, leaves);
     links = λ c h s. ⊎-elim (λ a. absurd (omega (arith, a .0, all-out c h)))
         (λ a. rw (a .1 .1 .1) (record { there = R .track-in; admissible = a .0; how = inl (refl, omega (arith, a .1 .0)) })) (S .steps c h .why);
-    count = omega (arith, zeros-all s1 (λ k h. all-open k (omega (arith, g .0, R .rooms .closings-long))), g .0, R .rooms .closings-long);
+    count = omega (arith, open-count-all closings1 (λ k h. all-open k (omega (arith, g .0, R .rooms .closings-long))), g .0, R .rooms .closings-long);
   }
     where
-      all-out : (k : ℕ) → k < m → at d1 k ≡ leftOut
+      all-out : (k : ℕ) → k < m → at labels1 k ≡ leftOut
       all-out k h = f .1 k (omega (arith, R .rooms .labels-long))
 
-      all-open : (k : ℕ) → k < m → at s1 k ≡ 0
+      all-open : (k : ℕ) → k < m → at closings1 k ≡ 0
       all-open k h = g .1 k (omega (arith, R .rooms .closings-long))
 
       leaves : leftOut - at prices x + at prices track ≡ leftOut
@@ -108,8 +108,8 @@ module _ {cells : List ℕ} {m track : ℕ} {pairing owner prices discounts : Li
       abbrev closings' : List ℕ
       closings' = set closings j (far + k)
 
-      pub ended-col : at owner j ≡ none → (leaver′ : ℕ) → Ended cells m (length prices) pairing owner prices discounts track (at labels j) j leaver′ labels via closings'
-      ended-col free leaver′ = record {
+      ended-free : at owner j ≡ none → (leaver′ : ℕ) → Ended cells m (length prices) pairing owner prices discounts track (at labels j) j leaver′ labels via closings'
+      ended-free free leaver′ = record {
         labels-long = T .labels-long;
         labels-in = T .labels-in;
         via-long = T .via-long;
@@ -139,13 +139,13 @@ module _ {cells : List ℕ} {m track : ℕ} {pairing owner prices discounts : Li
       abbrev closings″ : List ℕ
       closings″ = set closings j (far + k)
 
-      -- r is the track that has report j, lv and lrow are what leaving a track out then costs, and which
-      pub turn : {r lv lrow : ℕ} {labels' via' : List ℕ} → r ≡ at owner j → let x = at labels j + (leftOut - at prices r) in
-          (lv ≤ x) × ((lv ≤ leaving) × ((x < leaving → lv ≡ x) × (leaving ≤ x → lv ≡ leaving)))
-          → (x < leaving → lrow ≡ at owner j) × (leaving ≤ x → lrow ≡ leaver)
+      -- r is the track that has report j, leaving' and leaver' are what leaving a track out then costs, and which
+      pub turn : {r leaving' leaver' : ℕ} {labels' via' : List ℕ} → r ≡ at owner j → let x = at labels j + (leftOut - at prices r) in
+          (leaving' ≤ x) × ((leaving' ≤ leaving) × ((x < leaving → leaving' ≡ x) × (leaving ≤ x → leaving' ≡ leaving)))
+          → (x < leaving → leaver' ≡ at owner j) × (leaving ≤ x → leaver' ≡ leaver)
           → Scanned cells m discounts (at labels j) (at prices (at owner j)) (at owner j) labels via labels' via'
-          → Tree cells m (length prices) pairing owner prices discounts track lv lrow (k + 1) labels' via' closings″
-      turn {r} {lv} {lrow} q L K S' =
+          → Tree cells m (length prices) pairing owner prices discounts track leaving' leaver' (k + 1) labels' via' closings″
+      turn {r} {leaving'} {leaver'} q L K S' =
           let x = at labels j + (leftOut - at prices r) in
           let e : x + at prices (at owner j) ≡ at labels j + leftOut = omega (arith, ap (at prices) q, G .numbers .price-in (at owner j) (own-j .there)) in
           advance T next-in (pop-open next-in) (G .numbers) (pop-low next-in) (pop-near next-in) own-j
@@ -184,12 +184,12 @@ module _ {cells : List ℕ} {m track : ℕ} {pairing owner prices discounts : Li
         }
 
     -- not taken, but a report: it is free
-    pub free-j : j < m → isTaken owner j ≡ false → at owner j ≡ none
+    free-j : j < m → isTaken owner j ≡ false → at owner j ≡ none
     free-j jm t = ⊎-elim (λ a. a .0)
         (λ o. absurd (clash {b = isTaken owner j} (and-both (lt-ltb j (length owner) (omega (arith, G .shape .owner-long))) (rw (ne-eqb (at owner j) none (λ z. omega (arith, o .there, G .shape .tracks-few))) refl)) t))
         (G .matched .owned j jm (λ e. omega (arith, G .shape .reports-few)))
 
-    pub ended-leave : m ≤ j → Ended cells m (length prices) pairing owner prices discounts track leaving none leaver labels via closings
+    ended-leave : m ≤ j → Ended cells m (length prices) pairing owner prices discounts track leaving none leaver labels via closings
     ended-leave out = record {
       labels-long = T .labels-long;
       labels-in = T .labels-in;
@@ -202,3 +202,13 @@ module _ {cells : List ℕ} {m track : ℕ} {pairing owner prices discounts : Li
       links = λ c h s. T .links c h (T .under c h s);
       end = inr (refl, T .last);
     }
+
+    pub endable : Endable m k labels closings
+    endable = record { labels-long = T .labels-long; closings-long = T .closings-long; reports-few = G .shape .reports-few; closed-few = few }
+
+    -- the search has ended: next is not taken
+    pub ended : {closings' : List ℕ} {label report left : ℕ} → isTaken owner j ≡ false → EndsAt m leaving leaver k j labels closings closings' label report left
+        → Ended cells m (length prices) pairing owner prices discounts track label report left labels via closings'
+    ended {closings'} {label} {report} {left} t E = ⊎-elim
+        (λ out. let e = E .nowhere out in rw (e .0, e .1 .0, e .1 .1 .0, e .1 .1 .1) (ended-leave out))
+        (λ jm. let e = E .free jm in rw (e .0, e .1 .0, e .1 .1) (ended-free jm (free-j jm t) left)) (le-or-lt m j)

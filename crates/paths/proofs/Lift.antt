@@ -8,14 +8,14 @@ use lib.ListN.{length, set, length-set}
 use lib.Seq.{getD-set-same, getD-set-other}
 use Rattle.laws.specs.Lists.{at}
 use Rattle.matching.specs.Pairing.{none, leftOut}
-use Rattle.passes.specs.Cells.{Paid, far, RowsUp, ColsUp}
+use Rattle.passes.specs.Cells.{Paid, far, PricesUp, DiscountsUp}
 use Rattle.paths.specs.State.{cell, Shape, Prices, Own, Match, Closed, Link, Tight, Searchable, Ended, Finishable, Settled, Done, Inserted, Reached}
 use Rattle.laws.proofs.Stores.{le-or-lt}
 use Rattle.laws.proofs.Stores.{same-or}
 
 module _ {cells : List ℕ} {m track : ℕ} {pairing owner prices discounts d0 p0 s0 : List ℕ} (R : Searchable cells m track pairing owner prices discounts d0 p0 s0)
     {D report leaver : ℕ} {labels via closings : List ℕ} (E : Ended cells m (length prices) pairing owner prices discounts track D report leaver labels via closings)
-    {prices1 discounts1 : List ℕ} (RU : RowsUp pairing labels D prices prices1) (CU : ColsUp labels D discounts discounts1) where
+    {prices1 discounts1 : List ℕ} (RU : PricesUp pairing labels D prices prices1) (CU : DiscountsUp labels D discounts discounts1) where
   abbrev n : ℕ
   n = length prices
 
@@ -49,21 +49,21 @@ module _ {cells : List ℕ} {m track : ℕ} {pairing owner prices discounts d0 p
   three G i h f g k = ⊎-elim f (λ d. ⊎-elim (λ z. k d z) (λ z. g (z .0) (z .1 .1)) (R .good .matched .paired i h)) (same-or i track)
 
   -- the closed report of a track whose label is below D
-  near-row : (i : ℕ) → (p : at pairing i < m) → at owner (at pairing i) ≡ i → at labels (at pairing i) < D → Closed cells m n pairing prices discounts D labels (at pairing i) i
-  near-row i p b l = (rw b at (E .near (at pairing i) p l))
+  near-track : (i : ℕ) → (p : at pairing i < m) → at owner (at pairing i) ≡ i → at labels (at pairing i) < D → Closed cells m n pairing prices discounts D labels (at pairing i) i
+  near-track i p b l = (rw b at (E .near (at pairing i) p l))
 
   feas' : (i j : ℕ) → i < n → j < m → cell cells m i j < far → at prices2 i ≤ cell cells m i j + at discounts1 j
   feas' i j h g a = three (at prices2 i ≤ cell cells m i j + at discounts1 j) i h
       (λ q. rw q (omega (arith, u-r, w-j j g, E .root j g (rw q at a))))
       (λ p b. ⊎-elim (λ l. omega (arith, u-pair i h p, w-j j g, R .good .numbers .fair i j h g a))
-      (λ l. omega (arith, u-pair i h p, w-j j g, near-row i p b l .seen j g a)) (le-or-lt D (at labels (at pairing i))))
+      (λ l. omega (arith, u-pair i h p, w-j j g, near-track i p b l .seen j g a)) (le-or-lt D (at labels (at pairing i))))
       (λ d z. omega (arith, u-none i h d z, w-j j g, R .good .numbers .fair i j h g a))
 
   um' : (i : ℕ) → i < n → at prices2 i ≤ leftOut
   um' i h = three (at prices2 i ≤ leftOut) i h
       (λ q. rw q (omega (arith, u-r, E .price-in)))
       (λ p b. ⊎-elim (λ l. omega (arith, u-pair i h p, R .good .numbers .price-in i h))
-      (λ l. omega (arith, u-pair i h p, near-row i p b l .leave)) (le-or-lt D (at labels (at pairing i))))
+      (λ l. omega (arith, u-pair i h p, near-track i p b l .leave)) (le-or-lt D (at labels (at pairing i))))
       (λ d z. omega (arith, u-none i h d z, R .good .numbers .price-in i h))
 
   wm' : (j : ℕ) → j < m → at discounts1 j ≤ leftOut
@@ -151,7 +151,7 @@ module _ {cells : List ℕ} {m track : ℕ} {pairing owner prices discounts d0 p
       ⊎-elim
       (λ p. ⊎-elim (λ l. inl (p, omega (arith, u-pair i h p)))
       (λ l. let b = ⊎-elim (λ y. absurd (omega (arith, R .good .shape .reports-few))) (λ y. y .1 .1) (R .good .matched .paired i h) in
-      inr (omega (arith, u-pair i h p, near-row i p b l .seen j g a))) (le-or-lt D (at labels (at pairing i))))
+      inr (omega (arith, u-pair i h p, near-track i p b l .seen j g a))) (le-or-lt D (at labels (at pairing i))))
       (λ q. inr (omega (arith, ap (at prices2) q, u-r, E .root j g (rw q at a), ap (λ (k : ℕ). cell cells m k j) q)))
       f
 

@@ -5,7 +5,7 @@ use mathlib.Core.Path.{_≡_}
 use mathlib.Core.List.{List, [], _∷_}
 use mathlib.Core.Logic.{_⊎_}
 use mathlib.Core.Bool.{Bool, not, _&&_}
-use lib.ListN.{length}
+use lib.ListN.{length, set}
 use lib.Dec.{ltb, eqb}
 use Rattle.laws.specs.Lists.{at}
 use Rattle.matching.specs.Pairing.{none, leftOut, mostTracks}
@@ -19,14 +19,14 @@ widest = 200
 abbrev pub cell : List ℕ → ℕ → ℕ → ℕ → ℕ
 cell cells m i j = at cells (i * m + j)
 
-abbrev pub isZero : ℕ → ℕ
-isZero zero = 1
-isZero (suc n) = 0
+abbrev pub oneIfOpen : ℕ → ℕ
+oneIfOpen zero = 1
+oneIfOpen (suc n) = 0
 
 -- how many reports are open
-unfoldable pub zeros : List ℕ → ℕ
-zeros [] = 0
-zeros (x ∷ xs) = isZero x + zeros xs
+unfoldable pub openCount : List ℕ → ℕ
+openCount [] = 0
+openCount (x ∷ xs) = oneIfOpen x + openCount xs
 
 -- the lengths, and each cell a score or none
 pub record Shape (cells : List ℕ) (m n : ℕ) (pairing owner prices discounts : List ℕ) : Type 0 where
@@ -93,12 +93,12 @@ pub record Tree (cells : List ℕ) (m n : ℕ) (pairing owner prices discounts :
   pub last : ((leaver ≡ track) × (leaving + at prices track ≡ leftOut))
       ⊎ ((leaver < n) × ((at pairing leaver < m) × ((far ≤ at closings (at pairing leaver)) × (leaving + at prices leaver ≡ at labels (at pairing leaver) + leftOut))))
   pub links : (c : ℕ) → c < m → at labels c < leftOut → Link cells m n pairing prices discounts track labels closings c (at via c)
-  pub count : k + zeros closings ≡ m
+  pub count : k + openCount closings ≡ m
 
-pub record Scanned (cells : List ℕ) (m : ℕ) (discounts : List ℕ) (d ui i : ℕ) (labels via labels' via' : List ℕ) : Type 0 where
+pub record Scanned (cells : List ℕ) (m : ℕ) (discounts : List ℕ) (d price i : ℕ) (labels via labels' via' : List ℕ) : Type 0 where
   pub labels-long : length labels' ≡ m
   pub via-long : length via' ≡ m
-  pub steps : (e : ℕ) → e < m → Step (cell cells m i e) (at discounts e) d ui i (at labels e) (at via e) (at labels' e) (at via' e)
+  pub steps : (e : ℕ) → e < m → Step (cell cells m i e) (at discounts e) d price i (at labels e) (at via e) (at labels' e) (at via' e)
 
 -- what scan asks: the reports before lo are closed
 pub record Scannable (cells : List ℕ) (m lo i d : ℕ) (prices discounts labels via : List ℕ) : Type 0 where
@@ -144,6 +144,18 @@ pub record Standing (cells : List ℕ) (m n : ℕ) (pairing owner prices discoun
 abbrev pub isTaken : List ℕ → ℕ → Bool
 isTaken owner next = ltb next (length owner) && not (eqb (at owner next) none)
 
+-- what end_of asks
+pub record Endable (m closed : ℕ) (labels closings : List ℕ) : Type 0 where
+  pub labels-long : length labels ≡ m
+  pub closings-long : length closings ≡ m
+  pub reports-few : m ≤ widest
+  pub closed-few : closed ≤ m
+
+-- what it gives: next is free and is closed, at its label; or there is no next, and leaver is left out
+pub record EndsAt (m leaving leaver closed next : ℕ) (labels closings closings' : List ℕ) (label report left : ℕ) : Type 0 where
+  pub free : next < m → (label ≡ at labels next) × ((report ≡ next) × (closings' ≡ set closings next (far + closed)))
+  pub nowhere : m ≤ next → (label ≡ leaving) × ((report ≡ none) × ((left ≡ leaver) × (closings' ≡ closings)))
+
 -- what a search finds: labels, and D, at which a free report is reached or a track is left out
 pub record Ended (cells : List ℕ) (m n : ℕ) (pairing owner prices discounts : List ℕ) (track D report leaver : ℕ) (labels via closings : List ℕ) : Type 0 where
   pub labels-long : length labels ≡ m
@@ -159,7 +171,7 @@ pub record Ended (cells : List ℕ) (m n : ℕ) (pairing owner prices discounts 
       ⊎ ((report ≡ none) × (((leaver ≡ track) × (D + at prices track ≡ leftOut))
       ⊎ ((leaver < n) × ((at pairing leaver < m) × ((far ≤ at closings (at pairing leaver)) × (D + at prices leaver ≡ at labels (at pairing leaver) + leftOut))))))
 
--- the reports on the way back: each is tight at its parent, and its parent's report comes earlier
+-- the reports on the way back: each is tight at the track via which it was reached, and that track's report comes earlier
 pub record Tight (cells : List ℕ) (m n : ℕ) (pairing prices discounts : List ℕ) (track : ℕ) (closings : List ℕ) (c i : ℕ) : Type 0 where
   pub there : i < n
   pub admissible : cell cells m i c < far

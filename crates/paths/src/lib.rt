@@ -8,19 +8,19 @@ use passes::idx;
 use passes::lesser;
 use passes::nearest_from;
 use passes::open_from;
-use passes::raise_cols;
-use passes::raise_rows;
+use passes::raise_discounts;
+use passes::raise_prices;
 use passes::relax;
 ghost use Prim.Native.Nat.{_+_};
 ghost use mathlib.Core.Path.{_≡_};
 ghost use mathlib.Core.Bool.{true};
 ghost use lib.ListN.{length};
 ghost use Rattle.laws.specs.Lists.{at};
-ghost use Rattle.paths.specs.State.{Scanned, Scannable, Searchable, Standing, isTaken, Ended, Flips, Flipped, Finishable, Settled, Inserted, Reached};
+ghost use Rattle.paths.specs.State.{Scanned, Scannable, Searchable, Standing, isTaken, Endable, EndsAt, Ended, Flips, Flipped, Finishable, Settled, Inserted, Reached};
 
 // Where a search stands: what leaving a track out would cost, and which; how many reports are closed, before which report all are,
 // and the nearest open one, the number of reports if none is nearer than leaving a track out.
-struct Stand {
+struct Progress {
     leaving: u32,
     leaver: u32,
     closed: u32,
@@ -30,16 +30,16 @@ struct Stand {
 
 // How a search ended: at which label, with a free report or with a track that is left out, and after how many closed reports.
 struct Ending {
-    d: u32,
+    label: u32,
     report: u32,
     leaver: u32,
-    steps: u32,
+    closed: u32,
 }
 
-// How far a search went, and in how many steps.
+// How far a search went, and through how many reports.
 pub struct Reach {
-    pub d: u32,
-    pub steps: u32,
+    pub label: u32,
+    pub closed: u32,
 }
 
 // Track i, at label d, offers to every report from lo on; those before are closed.
@@ -85,7 +85,7 @@ fn set_out(
     labels: &mut [u32],
     via: &mut [u32],
     closings: &mut [u32],
-) -> Stand
+) -> Progress
     requires { ⌜ Searchable (now sheet) reports track (now pairing) (now owner) (now prices) (now discounts) (now labels) (now via) (now closings) ⌝ }
     ensures { λ s. ⌜ Standing (now (sheet .entry)) reports (length (now (prices .entry))) (now (pairing .entry)) (now (owner .entry)) (now (prices .entry)) (now (discounts .entry)) track (s .leaving) (s .leaver) (s .closed) (s .front) (s .next) (now (labels .exit)) (now (via .exit)) (now (closings .exit)) ⌝ }
 {
@@ -94,7 +94,7 @@ fn set_out(
     scan(sheet, reports, 0, track, 0, prices, discounts, labels, via);
     let leaving = LEFT_OUT - prices[idx(track)];
     let next = nearest_from(0, labels, closings, leaving);
-    Stand {
+    Progress {
         leaving: leaving,
         leaver: track,
         closed: 0,
@@ -112,11 +112,11 @@ fn pass_through(
     owner: &[u32],
     prices: &[u32],
     discounts: &[u32],
-    s: Stand,
+    s: Progress,
     labels: &mut [u32],
     via: &mut [u32],
     closings: &mut [u32],
-) -> Stand
+) -> Progress
     requires { ⌜ Standing (now sheet) reports (length (now prices)) (now pairing) (now owner) (now prices) (now discounts) track (s .leaving) (s .leaver) (s .closed) (s .front) (s .next) (now labels) (now via) (now closings) ⌝ }
     requires { ⌜ isTaken (now owner) (s .next) ≡ true ⌝ }
     ensures { λ r. ⌜ Standing (now (sheet .entry)) reports (length (now (prices .entry))) (now (pairing .entry)) (now (owner .entry)) (now (prices .entry)) (now (discounts .entry)) track (r .leaving) (r .leaver) (r .closed) (r .front) (r .next) (now (labels .exit)) (now (via .exit)) (now (closings .exit)) × (r .closed ≡ s .closed + 1) ⌝ }
@@ -131,7 +131,7 @@ fn pass_through(
     let front = open_from(closings, s.front);
     scan(sheet, reports, front, o, d, prices, discounts, labels, via);
     let next = nearest_from(front, labels, closings, leaving);
-    Stand {
+    Progress {
         leaving: leaving,
         leaver: leaver,
         closed: s.closed + 1,
@@ -150,6 +150,29 @@ fn is_taken(owner: &[u32], next: usize) -> bool
     owner[next] != NONE
 }
 
+// How a search ends: the nearest report is free, and is closed; or there is none, and a track is left out.
+fn end_of(reports: usize, s: Progress, labels: &[u32], closings: &mut [u32]) -> Ending
+    requires { ⌜ Endable reports (s .closed) (now labels) (now closings) ⌝ }
+    ensures { λ f. ⌜ EndsAt reports (s .leaving) (s .leaver) (s .closed) (s .next) (now (labels .entry)) (now (closings .entry)) (now (closings .exit)) (f .label) (f .report) (f .leaver) ⌝ }
+{
+    let j = s.next;
+    if j >= reports {
+        return Ending {
+            label: s.leaving,
+            report: NONE,
+            leaver: s.leaver,
+            closed: s.closed,
+        };
+    }
+    closings[j] = FAR + s.closed;
+    Ending {
+        label: labels[j],
+        report: j as u32,
+        leaver: NONE,
+        closed: s.closed + 1,
+    }
+}
+
 // From a track without a report: labels grow until a free report is nearest, or leaving a track out costs no more.
 fn search(
     sheet: &[u32],
@@ -164,7 +187,7 @@ fn search(
     closings: &mut [u32],
 ) -> Ending
     requires { ⌜ Searchable (now sheet) reports track (now pairing) (now owner) (now prices) (now discounts) (now labels) (now via) (now closings) ⌝ }
-    ensures { λ f. ⌜ Ended (now (sheet .entry)) reports (length (now (prices .entry))) (now (pairing .entry)) (now (owner .entry)) (now (prices .entry)) (now (discounts .entry)) track (f .d) (f .report) (f .leaver) (now (labels .exit)) (now (via .exit)) (now (closings .exit)) ⌝ }
+    ensures { λ f. ⌜ Ended (now (sheet .entry)) reports (length (now (prices .entry))) (now (pairing .entry)) (now (owner .entry)) (now (prices .entry)) (now (discounts .entry)) track (f .label) (f .report) (f .leaver) (now (labels .exit)) (now (via .exit)) (now (closings .exit)) ⌝ }
 {
     let mut s = set_out(
         sheet,
@@ -193,25 +216,11 @@ fn search(
             closings,
         );
     }
-    let j = s.next;
-    if j >= reports {
-        return Ending {
-            d: s.leaving,
-            report: NONE,
-            leaver: s.leaver,
-            steps: s.closed,
-        };
-    }
-    closings[j] = FAR + s.closed;
-    Ending {
-        d: labels[j],
-        report: j as u32,
-        leaver: NONE,
-        steps: s.closed + 1,
-    }
+    end_of(reports, s, labels, closings)
 }
 
-// Report `start` is free: it goes to its parent, whose report goes to its parent, up to the track.
+// Report `start` is free or given up: it goes to the track via which it was reached, whose report goes on likewise, up to the track
+// that is inserted.
 fn flip(
     sheet: &[u32],
     reports: usize,
@@ -305,7 +314,7 @@ pub fn insert(
     closings: &mut [u32],
 ) -> Reach
     requires { ⌜ Searchable (now sheet) reports track (now pairing) (now owner) (now prices) (now discounts) (now labels) (now via) (now closings) ⌝ }
-    ensures { λ r. ⌜ Inserted (now (sheet .entry)) reports (length (now (prices .entry))) track (now (pairing .entry)) (now (prices .entry)) (now (pairing .exit)) (now (owner .exit)) (now (prices .exit)) (now (discounts .exit)) × Reached (now (sheet .entry)) reports (length (now (prices .entry))) (now (pairing .entry)) (now (owner .entry)) (now (prices .entry)) (now (labels .exit)) (r .d) (now (pairing .exit)) (now (owner .exit)) (now (prices .exit)) ⌝ }
+    ensures { λ r. ⌜ Inserted (now (sheet .entry)) reports (length (now (prices .entry))) track (now (pairing .entry)) (now (prices .entry)) (now (pairing .exit)) (now (owner .exit)) (now (prices .exit)) (now (discounts .exit)) × Reached (now (sheet .entry)) reports (length (now (prices .entry))) (now (pairing .entry)) (now (owner .entry)) (now (prices .entry)) (now (labels .exit)) (r .label) (now (pairing .exit)) (now (owner .exit)) (now (prices .exit)) ⌝ }
 {
     let f = search(
         sheet,
@@ -319,11 +328,11 @@ pub fn insert(
         via,
         closings,
     );
-    let d = f.d;
-    raise_cols(labels, d, discounts);
-    raise_rows(pairing, owner, labels, d, prices);
+    let label = f.label;
+    raise_discounts(labels, label, discounts);
+    raise_prices(pairing, owner, labels, label, prices);
     let x = idx(track);
-    prices[x] = prices[x] + d;
+    prices[x] = prices[x] + label;
     finish(
         sheet,
         reports,
@@ -338,7 +347,7 @@ pub fn insert(
         owner,
     );
     Reach {
-        d: d,
-        steps: f.steps,
+        label: label,
+        closed: f.closed,
     }
 }

@@ -146,10 +146,10 @@ module _ (cells : List ℕ) (m n track : ℕ) (pairing owner prices discounts sl
     };
   }
 
--- a track that waits, with the lists of a search
-pub waits : (cells : List ℕ) (m track : ℕ) (pairing owner prices discounts labels via closings : List ℕ) → Good cells m (length prices) pairing owner prices discounts → Rooms m labels via closings
+-- a track without a report, with the lists of a search
+pub to-search : (cells : List ℕ) (m track : ℕ) (pairing owner prices discounts labels via closings : List ℕ) → Good cells m (length prices) pairing owner prices discounts → Rooms m labels via closings
     → track < length prices → at pairing track ≡ none → Searchable cells m track pairing owner prices discounts labels via closings
-waits cells m track pairing owner prices discounts labels via closings G L h z =
+to-search cells m track pairing owner prices discounts labels via closings G L h z =
     record { good = G; track-in = h; unpaired = z; rooms = L }
 
 -- with another name for the number of tracks

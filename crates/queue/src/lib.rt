@@ -1,4 +1,4 @@
-// The tracks that wait for a report take turns, the most exacting first. Once a search has gone a long way, the prices of all pairs rise
+// The tracks without a report take turns, the most exacting first. Once a search has gone a long way, the prices of all pairs rise
 // together before each turn as far as the free reports allow: then the next search meets a free report before it goes through them.
 use lifting::highest;
 use lifting::keep;
@@ -22,7 +22,7 @@ ghost use Rattle.paths.specs.State.{Good, Rooms};
 ghost use Rattle.queue.specs.State.{Slack, Lifting};
 
 // A search that closes as many reports is long.
-const LONG: u32 = 20;
+const LONG_SEARCH: u32 = 20;
 
 // A track in a pair bounds the slack of each report of its row.
 fn keep_row(
@@ -127,8 +127,8 @@ fn lifted_turn(
         via,
         closings,
     );
-    let d = r.d;
-    tighten(labels, d, slack);
+    let label = r.label;
+    tighten(labels, label, slack);
 }
 
 fn lifted_turns(
@@ -170,14 +170,14 @@ fn lifted_turns(
 }
 
 // The rounds end with a long search.
-fn next_round(k: usize, rounds: usize, steps: u32) -> usize
+fn next_round(k: usize, rounds: usize, closed: u32) -> usize
     requires { ⌜ k < rounds ⌝ }
     ensures { λ r. ⌜ (k < r) × (r ≤ rounds) ⌝ }
 {
-    if steps >= LONG { rounds } else { k + 1 }
+    if closed >= LONG_SEARCH { rounds } else { k + 1 }
 }
 
-// Turns until none waits, or a search was long.
+// Turns until no track is without a report, or a search was long.
 fn first_turns(
     sheet: &[u32],
     reports: usize,
@@ -210,8 +210,8 @@ fn first_turns(
             via,
             closings,
         );
-        let steps = r.steps;
-        k = next_round(k, prices.len(), steps);
+        let closed = r.closed;
+        k = next_round(k, prices.len(), closed);
     }
 }
 
@@ -250,7 +250,7 @@ fn later_turns(
     );
 }
 
-// Every track that waits takes its turn. Which one is first decides the time, not what is found.
+// Every track without a report takes its turn. Which one is first decides the time, not what is found.
 pub fn take_turns(
     sheet: &[u32],
     reports: usize,

@@ -26,11 +26,11 @@ mul-v c = search needs
 shared-slice-read-v : tie.Need-shared-slice-read-v Inv-loop μ-loop
 shared-slice-read-v c = search needs
 
-mul-if-waiting : tie.Need-mul-if-waiting Inv-loop μ-loop
-mul-if-waiting c = search needs
+mul-if-unpaired : tie.Need-mul-if-unpaired Inv-loop μ-loop
+mul-if-unpaired c = search needs
 
-shared-slice-read-if-waiting : tie.Need-shared-slice-read-if-waiting Inv-loop μ-loop
-shared-slice-read-if-waiting c = omega (arith, c .before .before .before .before .before .before .pre .0)
+shared-slice-read-if-unpaired : tie.Need-shared-slice-read-if-unpaired Inv-loop μ-loop
+shared-slice-read-if-unpaired c = omega (arith, c .before .before .before .before .before .before .pre .0)
 
 cast-turn-of : tie.Need-cast-turn-of Inv-loop μ-loop
 cast-turn-of c = omega (arith, c .before .before .before .before .before .before .pre .1 .0)
@@ -38,11 +38,11 @@ cast-turn-of c = omega (arith, c .before .before .before .before .before .before
 turn-of-requires : tie.Need-turn-of-requires Inv-loop μ-loop
 turn-of-requires c κs = omega (arith, c .before .before .before .before .before .before .pre .1 .0)
 
-if-waiting-requires : tie.Need-if-waiting-requires Inv-loop μ-loop
-if-waiting-requires c κs = c .before .before .before .before .before .before .before .pre .1 .1 (c .before .before .before .before .loop .j) (c .before .before .before .loop-test .taken)
+if-unpaired-requires : tie.Need-if-unpaired-requires Inv-loop μ-loop
+if-unpaired-requires c κs = c .before .before .before .before .before .before .before .pre .1 .1 (c .before .before .before .before .loop .j) (c .before .before .before .loop-test .taken)
 
 high-requires : tie.Need-high-requires Inv-loop μ-loop
-high-requires c κs = (omega (arith, c .if-waiting .ensures .0, c .before .turn-of .ensures .0), c .before .before .before .before .before .loop .inv .1 .0)
+high-requires c κs = (omega (arith, c .if-unpaired .ensures .0, c .before .turn-of .ensures .0), c .before .before .before .before .before .loop .inv .1 .0)
 
 add-j : tie.Need-add-j Inv-loop μ-loop
 add-j c = search needs
@@ -54,12 +54,12 @@ loop-again : tie.Need-loop-again Inv-loop μ-loop
 loop-again c =
     let p = c .before .before .before .before .before .before .loop in
     let l = c .high .ensures in
-    let e = c .before .if-waiting .ensures in
+    let e = c .before .if-unpaired .ensures in
     let t = c .before .before .turn-of .ensures in (
       search needs,
       (
-        ⊎-elim (λ g. omega (arith, l .1 .1 .1 g, e .0, t .0)) (λ g. omega (arith, l .1 .1 .0 g, p .inv .1 .0)) (le-or-lt (p .best) (c .before .if-waiting .result)),
-        ⊎-elim (λ g. rw (l .1 .1 .1 g) (λ h. let q = e .1 h in rw (q .0, t .1) (c .before .before .before .before .before .loop-test .taken, q .1))) (λ g. rw (l .1 .1 .0 g) (p .inv .1 .1)) (le-or-lt (p .best) (c .before .if-waiting .result)),
+        ⊎-elim (λ g. omega (arith, l .1 .1 .1 g, e .0, t .0)) (λ g. omega (arith, l .1 .1 .0 g, p .inv .1 .0)) (le-or-lt (p .best) (c .before .if-unpaired .result)),
+        ⊎-elim (λ g. rw (l .1 .1 .1 g) (λ h. let q = e .1 h in rw (q .0, t .1) (c .before .before .before .before .before .loop-test .taken, q .1))) (λ g. rw (l .1 .1 .0 g) (p .inv .1 .1)) (le-or-lt (p .best) (c .before .if-unpaired .result)),
       ),
     )
 
@@ -86,11 +86,11 @@ next-turn-spec =
     loop-holds
     mul-v
     shared-slice-read-v
-    mul-if-waiting
-    shared-slice-read-if-waiting
+    mul-if-unpaired
+    shared-slice-read-if-unpaired
     cast-turn-of
     turn-of-requires
-    if-waiting-requires
+    if-unpaired-requires
     high-requires
     add-j
     loop-less

@@ -1,6 +1,6 @@
 use Rattle.laws.proofs.Stores.{le-or-lt}
 use Rattle.laws.specs.Lists.{at}
-use Rattle.passes.specs.Cells.{near, mostColumns}
+use Rattle.passes.specs.Cells.{near, reportNumbers}
 use Rattle.passes.proofs.Keys.{near-low, near-here, near-met}
 use borrow.Author.Count.{below-none, below-more}
 use mathlib.Core.Path.{_≡_}
@@ -13,7 +13,7 @@ use Rattle.passes.proofs.near_key.Statement.{statement}
 use Rattle.passes.proofs.near_key.Tie as tie
 
 abbrev Inv-loop : tie.InvT-loop
-Inv-loop labels closings best₀ j₀ best j = (j ≤ length labels) × ((best < 2 ^ 31) × (((k : ℕ) → k < j → best / mostColumns ≤ at labels k + at closings k) × (best / mostColumns < near → (best % mostColumns < length labels) × (at labels (best % mostColumns) + at closings (best % mostColumns) ≡ best / mostColumns))))
+Inv-loop labels closings best₀ j₀ best j = (j ≤ length labels) × ((best < 2 ^ 31) × (((k : ℕ) → k < j → best / reportNumbers ≤ at labels k + at closings k) × (best / reportNumbers < near → (best % reportNumbers < length labels) × (at labels (best % reportNumbers) + at closings (best % reportNumbers) ≡ best / reportNumbers))))
 
 abbrev μ-loop : tie.MeasureT-loop
 μ-loop labels closings best₀ j₀ best j = length labels - j

@@ -39,17 +39,17 @@ offer-requires c κs = let a = c .before .before .before in
     let h : j < length (a .before .before .before .before .before .args .labels .now) = omega (arith, a .loop .inv .labels-long) in
     (p .discount-in j h, (p .offer-in, (p .price-in, (p .fair j h, p .cells-good j h))))
 
-mul-od : tie.Need-mul-od Inv-loop μ-loop
-mul-od c = search needs
+mul-before : tie.Need-mul-before Inv-loop μ-loop
+mul-before c = search needs
 
-slice-read-od : tie.Need-slice-read-od Inv-loop μ-loop
-slice-read-od c = search needs
+slice-read-before : tie.Need-slice-read-before Inv-loop μ-loop
+slice-read-before c = search needs
 
-mul-op : tie.Need-mul-op Inv-loop μ-loop
-mul-op c = search needs
+mul-via-before : tie.Need-mul-via-before Inv-loop μ-loop
+mul-via-before c = search needs
 
-slice-read-op : tie.Need-slice-read-op Inv-loop μ-loop
-slice-read-op c = search needs
+slice-read-via-before : tie.Need-slice-read-via-before Inv-loop μ-loop
+slice-read-via-before c = search needs
 
 low-requires : tie.Need-low-requires Inv-loop μ-loop
 low-requires c κs = let a = c .before .before .before .before .before .before in
@@ -133,10 +133,10 @@ relax-spec =
     mul-offer-2
     shared-slice-read-offer-2
     offer-requires
-    mul-od
-    slice-read-od
-    mul-op
-    slice-read-op
+    mul-before
+    slice-read-before
+    mul-via-before
+    slice-read-via-before
     low-requires
     mul-labels
     slice-write-labels

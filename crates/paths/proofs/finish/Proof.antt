@@ -1,4 +1,4 @@
-use Rattle.paths.proofs.Settle.{flips-col, settled-col, settled-r, left-out, flips-row, settled-row}
+use Rattle.paths.proofs.Settle.{flips-free, settled-free, settled-r, left-out, flips-leaver, settled-leaver}
 use native.Mathlib.Omega.{arith}
 use borrow.Author.Needs.{needs}
 use Rattle.paths.proofs.finish.Statement.{statement}
@@ -6,7 +6,7 @@ use Rattle.paths.proofs.finish.Tie as tie
 
 flip-requires : tie.Need-flip-requires
 flip-requires c κs = let s = c .before .before .before .before .before .before .before .before .before .before in
-    flips-col _ _ _ _ _ _ _ _ _ _ _ _ (s .pre) (c .before .before .if1 .taken)
+    flips-free _ _ _ _ _ _ _ _ _ _ _ _ (s .pre) (c .before .before .if1 .taken)
 
 same-length : tie.Need-same-length
 same-length c = search needs
@@ -16,7 +16,7 @@ same-length-2 c = search needs
 
 returns : tie.Need-returns
 returns c = let s = c .before .before .before .before .before .before .before .before .before .before .before .before .before .before .before in
-    settled-col _ _ _ _ _ _ _ _ _ _ _ _ (s .pre) (c .before .before .before .before .before .before .before .if1 .taken) _ _ (c .before .before .before .before .flip .ensures)
+    settled-free _ _ _ _ _ _ _ _ _ _ _ _ (s .pre) (c .before .before .before .before .before .before .before .if1 .taken) _ _ (c .before .before .before .before .flip .ensures)
 
 returns-2 : tie.Need-returns-2
 returns-2 c = let s = c .before .before .before .before .before .before .before .before .before in
@@ -41,7 +41,7 @@ slice-write-pairing c = let s = c .before .before .before .before .before .befor
 
 flip-requires-2 : tie.Need-flip-requires-2
 flip-requires-2 c κs = let s = c .before .before .before .before .before .before .before .before .before .before .before .before .before in
-    flips-row _ _ _ _ _ _ _ _ _ _ _ _ (s .pre) (c .before .before .before .before .before .if1 .left) (c .before .before .before .before .if2 .left) _ (c .before .before .before .idx .ensures)
+    flips-leaver _ _ _ _ _ _ _ _ _ _ _ _ (s .pre) (c .before .before .before .before .before .if1 .left) (c .before .before .before .before .if2 .left) _ (c .before .before .before .idx .ensures)
 
 same-length-3 : tie.Need-same-length-3
 same-length-3 c = search needs
@@ -51,7 +51,7 @@ same-length-4 c = search needs
 
 returns-3 : tie.Need-returns-3
 returns-3 c = let s = c .before .before .before .before .before .before .before .before .before .before .before .before .before .before .before .before .before .before in
-    settled-row _ _ _ _ _ _ _ _ _ _ _ _ (s .pre) (c .before .before .before .before .before .before .before .before .before .before .if1 .left) (c .before .before .before .before .before .before .before .before .before .if2 .left) _ (c .before .before .before .before .before .before .before .before .idx .ensures) _ _ (c .before .before .before .before .flip2 .ensures)
+    settled-leaver _ _ _ _ _ _ _ _ _ _ _ _ (s .pre) (c .before .before .before .before .before .before .before .before .before .before .if1 .left) (c .before .before .before .before .before .before .before .before .before .if2 .left) _ (c .before .before .before .before .before .before .before .before .idx .ensures) _ _ (c .before .before .before .before .flip2 .ensures)
 
 pub finish-spec : {M : Type 1} → statement M
 finish-spec =

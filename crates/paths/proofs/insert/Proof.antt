@@ -7,14 +7,14 @@ use Rattle.paths.proofs.insert.Tie as tie
 search-requires : tie.Need-search-requires
 search-requires c κs = search needs
 
-raise-cols-requires : tie.Need-raise-cols-requires
-raise-cols-requires c κs =
+raise-discounts-requires : tie.Need-raise-discounts-requires
+raise-discounts-requires c κs =
     let E = c .before .before .before .before .before .before .before .before .search .ensures in
     let g = c .before .before .before .before .before .before .before .before .before .before .before .before .before .before .before .before .before .before .before .before .before .before .before .before .pre .good in
     (omega (arith, E .labels-long, g .shape .discounts-long), λ j h. omega (arith, E .price-in, g .numbers .discount-in j (omega (arith, g .shape .discounts-long))))
 
-raise-rows-requires : tie.Need-raise-rows-requires
-raise-rows-requires c κs = paid (c .before .before .before .before .before .before .before .before .before .before .before .before .before .before .before .before .before .before .before .before .before .before .before .before .before .before .before .before .before .before .before .pre) (c .before .before .before .before .before .before .before .before .before .before .before .before .before .before .before .search .ensures)
+raise-prices-requires : tie.Need-raise-prices-requires
+raise-prices-requires c κs = paid (c .before .before .before .before .before .before .before .before .before .before .before .before .before .before .before .before .before .before .before .before .before .before .before .before .before .before .before .before .before .before .before .pre) (c .before .before .before .before .before .before .before .before .before .before .before .before .before .before .before .search .ensures)
 
 idx-requires : tie.Need-idx-requires
 idx-requires c κs = search needs
@@ -23,19 +23,19 @@ mul-prices : tie.Need-mul-prices
 mul-prices c = omega (arith, c .idx .ensures, c .before .before .before .before .before .before .before .before .before .before .before .before .before .before .before .before .before .before .before .before .before .before .before .before .before .before .before .before .before .before .before .before .before .before .before .pre .track-in, c .before .before .before .before .before .before .before .before .before .before .before .before .before .before .before .before .before .before .before .before .before .before .before .before .before .before .before .before .before .before .before .before .before .before .before .pre .good .shape .tracks-few)
 
 slice-read-prices : tie.Need-slice-read-prices
-slice-read-prices c = omega (arith, c .before .idx .ensures, c .before .before .before .before .before .before .before .before .before .before .before .before .before .before .before .before .before .before .before .before .before .before .before .before .before .before .before .before .before .before .before .before .before .before .before .before .pre .track-in, c .before .before .before .before .raise-rows .ensures .prices-long)
+slice-read-prices c = omega (arith, c .before .idx .ensures, c .before .before .before .before .before .before .before .before .before .before .before .before .before .before .before .before .before .before .before .before .before .before .before .before .before .before .before .before .before .before .before .before .before .before .before .before .pre .track-in, c .before .before .before .before .raise-prices .ensures .prices-long)
 
 add-prices : tie.Need-add-prices
-add-prices c = omega (arith, u1-small (c .before .before .before .before .before .before .before .before .before .before .before .before .before .before .before .before .before .before .before .before .before .before .before .before .before .before .before .before .before .before .before .before .before .before .before .before .pre) (c .before .before .before .before .before .before .before .before .before .before .before .before .before .before .before .before .before .before .before .before .search .ensures) (c .before .before .before .before .raise-rows .ensures) (c .before .before .before .before .before .before .before .before .before .before .before .raise-cols .ensures) (c .before .idx .ensures))
+add-prices c = omega (arith, u1-small (c .before .before .before .before .before .before .before .before .before .before .before .before .before .before .before .before .before .before .before .before .before .before .before .before .before .before .before .before .before .before .before .before .before .before .before .before .pre) (c .before .before .before .before .before .before .before .before .before .before .before .before .before .before .before .before .before .before .before .before .search .ensures) (c .before .before .before .before .raise-prices .ensures) (c .before .before .before .before .before .before .before .before .before .before .before .raise-discounts .ensures) (c .before .idx .ensures))
 
 mul-prices-2 : tie.Need-mul-prices-2
 mul-prices-2 c = omega (arith, c .before .idx .ensures, c .before .before .before .before .before .before .before .before .before .before .before .before .before .before .before .before .before .before .before .before .before .before .before .before .before .before .before .before .before .before .before .before .before .before .before .before .pre .track-in, c .before .before .before .before .before .before .before .before .before .before .before .before .before .before .before .before .before .before .before .before .before .before .before .before .before .before .before .before .before .before .before .before .before .before .before .before .pre .good .shape .tracks-few)
 
 slice-write-prices : tie.Need-slice-write-prices
-slice-write-prices c = omega (arith, c .before .idx .ensures, c .before .before .before .before .before .before .before .before .before .before .before .before .before .before .before .before .before .before .before .before .before .before .before .before .before .before .before .before .before .before .before .before .before .before .before .before .pre .track-in, c .before .before .before .before .raise-rows .ensures .prices-long)
+slice-write-prices c = omega (arith, c .before .idx .ensures, c .before .before .before .before .before .before .before .before .before .before .before .before .before .before .before .before .before .before .before .before .before .before .before .before .before .before .before .before .before .before .before .before .before .before .before .before .pre .track-in, c .before .before .before .before .raise-prices .ensures .prices-long)
 
 finish-requires : tie.Need-finish-requires
-finish-requires c κs = turned (c .before .before .before .before .before .before .before .before .before .before .before .before .before .before .before .before .before .before .before .before .before .before .before .before .before .before .before .before .before .before .before .before .before .before .before .before .before .before .before .before .before .before .pre) (c .before .before .before .before .before .before .before .before .before .before .before .before .before .before .before .before .before .before .before .before .before .before .before .before .before .before .search .ensures) (c .before .before .before .before .before .before .before .before .before .before .raise-rows .ensures) (c .before .before .before .before .before .before .before .before .before .before .before .before .before .before .before .before .before .raise-cols .ensures) (c .before .before .before .before .before .before .before .idx .ensures)
+finish-requires c κs = turned (c .before .before .before .before .before .before .before .before .before .before .before .before .before .before .before .before .before .before .before .before .before .before .before .before .before .before .before .before .before .before .before .before .before .before .before .before .before .before .before .before .before .before .pre) (c .before .before .before .before .before .before .before .before .before .before .before .before .before .before .before .before .before .before .before .before .before .before .before .before .before .before .search .ensures) (c .before .before .before .before .before .before .before .before .before .before .raise-prices .ensures) (c .before .before .before .before .before .before .before .before .before .before .before .before .before .before .before .before .before .raise-discounts .ensures) (c .before .before .before .before .before .before .before .idx .ensures)
 
 same-length : tie.Need-same-length
 same-length c = search needs
@@ -62,8 +62,8 @@ returns : tie.Need-returns
 returns c =
     let R = c .before .before .before .before .before .before .before .before .before .before .before .before .before .before .before .before .before .before .before .before .before .before .before .before .before .before .before .before .before .before .before .before .before .before .before .before .before .before .before .before .before .before .before .before .before .before .before .pre in
     let E = c .before .before .before .before .before .before .before .before .before .before .before .before .before .before .before .before .before .before .before .before .before .before .before .before .before .before .before .before .before .before .before .search .ensures in
-    let RU = c .before .before .before .before .before .before .before .before .before .before .before .before .before .before .before .raise-rows .ensures in
-    let CU = c .before .before .before .before .before .before .before .before .before .before .before .before .before .before .before .before .before .before .before .before .before .before .raise-cols .ensures in
+    let RU = c .before .before .before .before .before .before .before .before .before .before .before .before .before .before .before .raise-prices .ensures in
+    let CU = c .before .before .before .before .before .before .before .before .before .before .before .before .before .before .before .before .before .before .before .before .before .before .raise-discounts .ensures in
     let x = c .before .before .before .before .before .before .before .before .before .before .before .before .idx .ensures in
     let S = c .before .before .before .before .finish .ensures in
     (inserted R E RU CU x S, reached R E RU CU x S)
@@ -73,8 +73,8 @@ insert-spec =
     tie.close
     (tie.spec
     search-requires
-    raise-cols-requires
-    raise-rows-requires
+    raise-discounts-requires
+    raise-prices-requires
     idx-requires
     mul-prices
     slice-read-prices

@@ -1,4 +1,4 @@
-use Rattle.queue.proofs.Rise.{good-at, good-len, waits}
+use Rattle.queue.proofs.Rise.{good-at, good-len, to-search}
 use Rattle.paths.specs.State.{Good, Rooms}
 use Prim.Native.Nat.{_≤_, _-_}
 use lib.ListN.{length}
@@ -51,7 +51,7 @@ sub-insert c = search needs
 insert-requires : tie.Need-insert-requires Inv-loop μ-loop
 insert-requires c κs =
     let t = c .before .before .before .before .before .before .before .before .next-turn .ensures (omega (arith, c .before .before .before .before .before .before .before .if1 .left)) in
-    waits _ _ _ _ _ _ _ _ _ _ (good-len _ _ _ _ _ _ _ (c .before .before .before .before .before .before .before .before .before .before .before .before .loop .inv .0)) (c .before .before .before .before .before .before .before .before .before .before .before .before .loop .inv .1 .0) (t .0) (t .1)
+    to-search _ _ _ _ _ _ _ _ _ _ (good-len _ _ _ _ _ _ _ (c .before .before .before .before .before .before .before .before .before .before .before .before .loop .inv .0)) (c .before .before .before .before .before .before .before .before .before .before .before .before .loop .inv .1 .0) (t .0) (t .1)
 
 next-round-requires : tie.Need-next-round-requires Inv-loop μ-loop
 next-round-requires c κs = omega (arith, c .before .before .before .before .before .before .before .before .before .before .before .before .before .before .before .before .before .before .before .before .before .before .before .before .before .before .before .loop .inv .0 .shape .prices-long, c .before .before .before .before .before .before .before .before .before .before .before .before .before .before .insert .ensures .0 .good .shape .prices-long, c .before .before .before .before .before .before .before .before .before .before .before .before .before .before .before .before .before .before .before .before .before .before .before .before .before .before .loop-test .taken)

@@ -1,5 +1,5 @@
 use borrow.Author.Needs.{needs}
-use Rattle.queue.proofs.Rise.{good-len, waits, lifting-at, search-slacks, turned}
+use Rattle.queue.proofs.Rise.{good-len, to-search, lifting-at, search-slacks, turned}
 use mathlib.Core.Path.{sym}
 use native.Mathlib.Omega.{arith}
 use Rattle.queue.proofs.lifted_turn.Statement.{statement}
@@ -11,7 +11,7 @@ lift-requires c κs = search needs
 insert-requires : tie.Need-insert-requires
 insert-requires c κs =
     let L = c .before .before .before .before .before .before .before .before .before .before .before .before .before .lift .ensures in
-    waits _ _ _ _ _ _ _ _ _ _ (good-len _ _ _ _ _ _ _ (L .good)) (c .before .before .before .before .before .before .before .before .before .before .before .before .before .before .before .before .before .before .before .before .before .before .before .before .before .before .before .before .pre .1 .0) (omega (arith, c .before .before .before .before .before .before .before .before .before .before .before .before .before .before .before .before .before .before .before .before .before .before .before .before .before .before .before .before .pre .1 .1 .0, L .good .shape .prices-long)) (c .before .before .before .before .before .before .before .before .before .before .before .before .before .before .before .before .before .before .before .before .before .before .before .before .before .before .before .before .pre .1 .1 .1)
+    to-search _ _ _ _ _ _ _ _ _ _ (good-len _ _ _ _ _ _ _ (L .good)) (c .before .before .before .before .before .before .before .before .before .before .before .before .before .before .before .before .before .before .before .before .before .before .before .before .before .before .before .before .pre .1 .0) (omega (arith, c .before .before .before .before .before .before .before .before .before .before .before .before .before .before .before .before .before .before .before .before .before .before .before .before .before .before .before .before .pre .1 .1 .0, L .good .shape .prices-long)) (c .before .before .before .before .before .before .before .before .before .before .before .before .before .before .before .before .before .before .before .before .before .before .before .before .before .before .before .before .pre .1 .1 .1)
 
 tighten-requires : tie.Need-tighten-requires
 tighten-requires c κs =

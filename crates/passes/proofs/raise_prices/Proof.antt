@@ -4,8 +4,8 @@ use mathlib.Core.Path.{_≡_, refl, _∙_}
 use Prim.Native.Nat.{_≤_, _-_}
 use lib.ListN.{length}
 use native.Mathlib.Omega.{arith}
-use Rattle.passes.proofs.raise_rows.Statement.{statement}
-use Rattle.passes.proofs.raise_rows.Tie as tie
+use Rattle.passes.proofs.raise_prices.Statement.{statement}
+use Rattle.passes.proofs.raise_prices.Tie as tie
 
 abbrev Inv-loop : tie.InvT-loop
 Inv-loop pairing owner labels d prices₀ j₀ prices j = (j ≤ length labels) × ((length prices ≡ length prices₀) × Upto pairing labels d prices₀ j prices)
@@ -16,11 +16,11 @@ abbrev μ-loop : tie.MeasureT-loop
 loop-holds : tie.Need-loop-holds Inv-loop μ-loop
 loop-holds c = (search needs, (refl, λ i h. ((λ g. absurd (omega arith)), λ g. refl)))
 
-mul-topup : tie.Need-mul-topup Inv-loop μ-loop
-mul-topup c = search needs
+mul-raise-one : tie.Need-mul-raise-one Inv-loop μ-loop
+mul-raise-one c = search needs
 
-shared-slice-read-topup : tie.Need-shared-slice-read-topup Inv-loop μ-loop
-shared-slice-read-topup c = search needs
+shared-slice-read-raise-one : tie.Need-shared-slice-read-raise-one Inv-loop μ-loop
+shared-slice-read-raise-one c = search needs
 
 mul-over : tie.Need-mul-over Inv-loop μ-loop
 mul-over c = search needs
@@ -31,8 +31,8 @@ shared-slice-read-over c = search needs
 over-requires : tie.Need-over-requires Inv-loop μ-loop
 over-requires c κs = search needs
 
-topup-requires : tie.Need-topup-requires Inv-loop μ-loop
-topup-requires c κs = let a = c .before .before .before .before .before in
+raise-one-requires : tie.Need-raise-one-requires Inv-loop μ-loop
+raise-one-requires c κs = let a = c .before .before .before .before .before in
     let s = a .before .before .before .before .before in
     may (s .args .pairing .now) (s .args .owner .now) (s .args .labels .now) (s .args .prices .now) (s .args .d) (s .pre) (a .loop .j) (c .before .before .before .before .loop-test .taken) (a .loop .prices) (a .loop .inv .1 .0) (a .loop .inv .1 .1) (c .over .result) (c .over .ensures)
 
@@ -45,7 +45,7 @@ loop-less c = search needs
 loop-again : tie.Need-loop-again Inv-loop μ-loop
 loop-again c = let a = c .before .before .before .before .before .before .before .before in
     let s = a .before .before .before .before .before in
-    let L = c .before .before .topup .ensures in
+    let L = c .before .before .raise-one .ensures in
     (search needs, (L .prices-long ∙ a .loop .inv .1 .0, raised _ _ _ _ _ (s .pre) (a .loop .j) (c .before .before .before .before .before .before .before .loop-test .taken) _ (a .loop .inv .1 .0) (a .loop .inv .1 .1) _ (c .before .before .before .over .ensures) _ L))
 
 same-length : tie.Need-same-length Inv-loop μ-loop
@@ -55,19 +55,19 @@ returns : tie.Need-returns Inv-loop μ-loop
 returns c = let v = c .before .loop .inv in
     record { prices-long = v .1 .0; up = λ i h. ((λ g. v .1 .1 i h .0 (omega arith)), λ g. v .1 .1 i h .1 (omega arith)) }
 
-pub raise-rows-spec : {M : Type 1} → statement M
-raise-rows-spec =
+pub raise-prices-spec : {M : Type 1} → statement M
+raise-prices-spec =
     tie.close
     (tie.spec
     Inv-loop
     μ-loop
     loop-holds
-    mul-topup
-    shared-slice-read-topup
+    mul-raise-one
+    shared-slice-read-raise-one
     mul-over
     shared-slice-read-over
     over-requires
-    topup-requires
+    raise-one-requires
     add-j
     loop-less
     loop-again

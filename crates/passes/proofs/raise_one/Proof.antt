@@ -4,8 +4,8 @@ use mathlib.Core.Path.{ap}
 use mathlib.Core.Logic.{⊎-elim}
 use native.Mathlib.Omega.{arith}
 use borrow.Author.Needs.{needs}
-use Rattle.passes.proofs.topup.Statement.{statement}
-use Rattle.passes.proofs.topup.Tie as tie
+use Rattle.passes.proofs.raise_one.Statement.{statement}
+use Rattle.passes.proofs.raise_one.Tie as tie
 
 idx-requires : tie.Need-idx-requires
 idx-requires c κs = search needs
@@ -38,8 +38,8 @@ returns c = let s = c .before .before .before .before in
 returns-2 : tie.Need-returns-2
 returns-2 c = lifted-not _ _ _ (c .if1 .left)
 
-pub topup-spec : {M : Type 1} → statement M
-topup-spec =
+pub raise-one-spec : {M : Type 1} → statement M
+raise-one-spec =
     tie.close
     (tie.spec
     idx-requires

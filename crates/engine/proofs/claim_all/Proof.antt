@@ -7,8 +7,8 @@ use mathlib.Core.Path.{_≡_}
 use Prim.Native.Nat.{ℕ, _≤_, _<_, _-_}
 use borrow.Author.Needs.{needs}
 use native.Mathlib.Omega.{arith}
-use Rattle.engine.proofs.start.Statement.{statement}
-use Rattle.engine.proofs.start.Tie as tie
+use Rattle.engine.proofs.claim_all.Statement.{statement}
+use Rattle.engine.proofs.claim_all.Tie as tie
 
 abbrev Inv-loop : tie.InvT-loop
 Inv-loop sheet m pairing₀ owner₀ prices₀ discounts track₀ pairing owner prices track = Good sheet m (length prices₀) pairing owner prices discounts × ((track ≤ length prices₀) × ((i : ℕ) → track ≤ i → i < length prices₀ → at pairing i ≡ none))
@@ -59,8 +59,8 @@ same-length-3 c = search needs
 returns : tie.Need-returns Inv-loop μ-loop
 returns c = search needs
 
-pub start-spec : {M : Type 1} → statement M
-start-spec =
+pub claim-all-spec : {M : Type 1} → statement M
+claim-all-spec =
     tie.close
     (tie.spec
     Inv-loop

@@ -6,8 +6,8 @@ use mathlib.Core.Path.{_≡_, refl}
 use Prim.Native.Nat.{ℕ, _+_, _≤_, _<_, _-_}
 use borrow.Author.Needs.{needs}
 use native.Mathlib.Omega.{arith}
-use Rattle.passes.proofs.raise_cols.Statement.{statement}
-use Rattle.passes.proofs.raise_cols.Tie as tie
+use Rattle.passes.proofs.raise_discounts.Statement.{statement}
+use Rattle.passes.proofs.raise_discounts.Tie as tie
 
 abbrev Inv-loop : tie.InvT-loop
 Inv-loop labels d discounts₀ j₀ discounts j = (j ≤ length discounts₀) × ((length discounts ≡ length discounts₀) × (((k : ℕ) → k < j → at discounts k ≡ at discounts₀ k + (d - at labels k)) × ((k : ℕ) → j ≤ k → at discounts k ≡ at discounts₀ k)))
@@ -76,8 +76,8 @@ returns c = let s = c .before .before .before .before in
     let v = a .inv in
     record { discounts-long = v .1 .0; up = λ k h. v .1 .1 .0 k (omega (arith, v .1 .0)) }
 
-pub raise-cols-spec : {M : Type 1} → statement M
-raise-cols-spec =
+pub raise-discounts-spec : {M : Type 1} → statement M
+raise-discounts-spec =
     tie.close
     (tie.spec
     Inv-loop
