@@ -6,8 +6,8 @@
  * and no pointer may be null, even where its count is 0. No memory is allocated and no working room is lent. The unit keeps
  * no state: calls on different tables may run at the same time.
  *
- * Stack: allow 60 KB. plot_serve_sector takes 45 KB on x86-64: a sheet of 100 x 100 cells (40,000 bytes), the due list (808
- * bytes) and lists of up to 200 numbers. The other calls take under 4 KB.
+ * Stack: allow 60 KB. plot_serve_sector takes 47 KB on x86-64: a sheet of 100 x 100 cells (40,000 bytes), the due list (808
+ * bytes) and lists of up to 200 numbers. plot_pair_sheet takes 4.5 KB, the others under 2 KB.
  */
 #ifndef PLOTUNIT_H
 #define PLOTUNIT_H
@@ -43,7 +43,7 @@ typedef struct plot_track {
     uint8_t misses;        /* since the last pairing; at most 0, 1, 2, 3 at updates 1, 2..3, 4..7, over 7 */
     uint8_t confidence;    /* 0..7, of the last report */
     uint8_t quality;       /* 0..3, of the last report */
-    uint8_t wait;          /* 0..46, calls before the one that serves it; 0 is due */
+    uint8_t wait;          /* 0..46, calls before the one that serves it, 0 is due; (sector + wait) mod 32 is the azimuth's sector */
     uint8_t mark;          /* 0 free (the other bytes are not read), 1 holds a track */
 } plot_track;
 
@@ -99,10 +99,10 @@ enum {
 /* Serves a sector: pairs the batch with the due tracks, settles the table, starts tracks, moves the sector on. Needs room in
  * fates, slots, shown and discounts for an entry a report, and in prices for an entry a slot. */
 uint8_t plot_serve_sector(
-    uint8_t (*table)[16], size_t table_len,
+    uint8_t (*table)[PLOT_SLOT_BYTES], size_t table_len,
     uint8_t *sector,                               /* 0..31; moves on by one */
     uint8_t range_sigma, uint8_t azimuth_sigma,    /* the site sheet, 1..255 each */
-    const uint8_t (*batch)[11], size_t batch_len,
+    const uint8_t (*batch)[PLOT_REPORT_BYTES], size_t batch_len,
     uint8_t *fates, size_t fates_len,              /* PLOT_PAIRED .. PLOT_FULL */
     uint16_t *slots, size_t slots_len,             /* the report's slot, or PLOT_NO_SLOT */
     uint8_t *shown, size_t shown_len,              /* 1: paired, updates now 3 or more; else 0 */
@@ -112,9 +112,9 @@ uint8_t plot_serve_sector(
 
 /* A sector's score sheet: a row a due track in slot order, a cell a report in batch order. Needs room for all cells. */
 uint8_t plot_score_sheet(
-    const uint8_t (*table)[16], size_t table_len,
+    const uint8_t (*table)[PLOT_SLOT_BYTES], size_t table_len,
     uint8_t sector, uint8_t range_sigma, uint8_t azimuth_sigma,
-    const uint8_t (*batch)[11], size_t batch_len,
+    const uint8_t (*batch)[PLOT_REPORT_BYTES], size_t batch_len,
     uint32_t *sheet, size_t sheet_len,             /* each a score under 2,097,152, or PLOT_NONE */
     uint32_t *size);                               /* 2 numbers: tracks, reports */
 

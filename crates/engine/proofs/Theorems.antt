@@ -21,9 +21,6 @@ module _ {n m : ℕ} {s p u v p′ u′ v′ : List ℕ} (R : SheetPaired n m s 
   accepts-every-best q l b = best-is-zero n m s p′ q u′ v′ (R .accepted) l b
 
   -- All that the check's 0 says, in one: best, as good as every best pairing, fewest misses, no report unused that a missed track could use.
-  pub written-says : AcceptedNumbers n m s p′ u′ v′
-  written-says = zero-says n m s p′ u′ v′ (R .accepted)
-
   fits : Fits n m s p′ u′ v′
   fits = zero-certificate n m s p′ u′ v′ (R .accepted) .0
 

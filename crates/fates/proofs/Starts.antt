@@ -3,10 +3,8 @@ use Prim.Native.Nat.{ℕ, _<_}
 use mathlib.Core.Path.{_≡_, refl, sym, _∙_}
 use mathlib.Core.Bool.{Bool, true, false, cond}
 use mathlib.Core.List.{List, []}
-use native.Mathlib.Omega.{arith}
 use borrow.Author.Tests.{ltb-true, ltb-false, eqb-true, eqb-false}
 use lib.Dec.{eqb, ltb}
-use lib.IntN.{pos}
 use lib.ListN.{length, getD, set, length-set}
 use lib.Seq.{getD-set-same, getD-set-other, set-out}
 use Rattle.laws.specs.Lists.{at, afterAll}
@@ -14,13 +12,10 @@ use Rattle.laws.proofs.Search.{first-found}
 use Rattle.laws.proofs.Tests.{clash}
 use Rattle.numbers.specs.Scales.{turn, sectors}
 use Rattle.numbers.specs.Sectors.{nextSector}
-use Rattle.numbers.proofs.AzimuthLaws.{Sixteen}
 use Rattle.records.specs.declared.Report.{Report}
-use Rattle.records.specs.declared.Track.{Track}
-use Rattle.records.specs.Fields.{held, trackFields, WellFormed, Sound}
-use Rattle.records.specs.Bytes.{markAt, bytesOf, reportOf, badSlotField}
-use Rattle.records.proofs.Checked.{all-fields-good}
-use Rattle.records.proofs.RoundTrips.{unpack-pack}
+use Rattle.records.specs.Fields.{trackFields, Sound}
+use Rattle.records.specs.Bytes.{bytesOf, reportOf, badSlotField}
+use Rattle.records.proofs.Packed.{packed-good}
 use Rattle.settling.specs.Settle.{startedOf}
 use Rattle.settling.proofs.HandedOn.{started-served}
 use Rattle.fates.specs.Fates.{started, Handed, isFree, freeSlot, ownerOf, toldUnpaired, afterUnpaired, afterReport, reportNumbers, startedTable}
@@ -85,24 +80,10 @@ held-slots-kept h P table k f = held-at h P (length (h .batch)) table k f
 pub record AllGood (s : ℕ) (table : List (List ℕ)) : Type 0 where
   pub good : (k : ℕ) → k < length table → badSlotField (getD table k []) s ≡ trackFields
 
--- a well-formed track, packed, has none
-pub mark-packed : (t : Track) → at (bytesOf t) markAt ≡ t .mark
-unfolding bytesOf
-mark-packed t = refl
-
-pub packed-good : (t : Track) (s : ℕ) → Sixteen (t .«range_speed» .v) → Sixteen (t .«azimuth_speed» .v) → WellFormed t s → badSlotField (bytesOf t) s ≡ trackFields
-unfolding badSlotField
-packed-good t s a b w =
-    let m : at (bytesOf t) markAt ≡ held = mark-packed t ∙ w .is-held in
-    rw (unpack-pack t a b, m) (all-fields-good t s w)
-
 -- a new track is one
 new-good : (p : Report) (s : ℕ) → s < sectors → p .azimuth < turn → Sound p → badSlotField (bytesOf (startedOf p s)) (nextSector s) ≡ trackFields
 unfolding startedOf
-new-good p s h a w = packed-good (startedOf p s) (nextSector s) still still (started-served p s h a w .well)
-  where
-    still : Sixteen (pos 0)
-    still = record { fits = omega arith }
+new-good p s h a w = packed-good (startedOf p s) (nextSector s) (started-served p s h a w .well)
 
 -- what a call checks of its reports
 pub record GoodReports (h : Handed) : Type 0 where

@@ -1,21 +1,12 @@
--- Laws of loops over a list: what is not written yet, an answer by its place, a place by its rank among those of its kind.
+-- Laws of loops over a list: an answer by its place, a place by its rank among those of its kind.
 use Prim.Native.Nat.{ℕ, zero, suc, _+_, _-_, _≤_, _<_}
-use mathlib.Core.Path.{_≡_, refl, sym, ap, _∙_}
+use mathlib.Core.Path.{_≡_, refl, _∙_}
 use mathlib.Core.Bool.{Bool, true, false, cond}
 use mathlib.Core.List.{List, [], _∷_}
-use native.Mathlib.Nat.{add-zero, le-of-suc-le-suc, not-suc-le-zero}
+use native.Mathlib.Nat.{le-of-suc-le-suc, not-suc-le-zero}
 use native.Mathlib.Omega.{arith}
-use lib.ListN.{length, getD, take, drop}
-use lib.Seq.{getD-drop}
+use lib.ListN.{length, getD, take}
 use Rattle.laws.specs.Lists.{afterAll, outs, indicesFrom}
-use Rattle.laws.proofs.Filled.{Filled}
-
--- what is not written yet stands as it did
-pub not-yet : {A : Type 0} {whole out out₀ rest : List A} {n : ℕ} (d : A) → Filled whole out out₀ n rest → getD out n d ≡ getD out₀ n d
-not-yet {A} {whole} {out} {out₀} {rest} {n} d w = sym (first out) ∙ ap (λ (l : List A). getD l 0 d) (w .kept) ∙ first out₀
-  where
-    first : (l : List A) → getD (drop n l) 0 d ≡ getD l n d
-    first l = rw (getD-drop, add-zero n)
 
 -- an answer a step: the k-th is made from the k-th element and the state that it meets
 pub outs-at : {B S C : Type 0} (step : B → S → S) (out : B → S → C) (bs : List B) (s : S) (k : ℕ) (b : B) (d : C) → k < length bs → getD (outs step out bs s) k d ≡ out (getD bs k b) (afterAll step (take k bs) s)

@@ -6,7 +6,7 @@ use mathlib.Core.Bool.{Bool, true, false, cond}
 use native.Mathlib.Omega.{arith}
 use native.Mathlib.Nat.{zero-add, le-of-suc-le-suc, not-suc-le-zero}
 use native.Mathlib.Numerals.{add-one}
-use lib.ListN.{length, getD, take, drop, set, length-set, length-append, drop-of-length-le}
+use lib.ListN.{length, getD, take, drop, set, length-set, drop-of-length-le}
 use lib.Seq.{drop-cons, length-take-le, take-suc-set, take-set-le}
 use Rattle.laws.specs.Lists.{firstIndex, indicesFrom}
 
@@ -102,13 +102,6 @@ pub record Gathered {A : Type 0} (p : A → Bool) (xs : List A) (out : List ℕ)
 module _ {A : Type 0} (p : A → Bool) where
   pub gathered-none : (xs : List A) (out : List ℕ) → Gathered p xs out 0 0
   gathered-none xs out = record { upto = omega arith; room = omega arith; found = refl }
-
-  gathered-count : {xs : List A} {out : List ℕ} {n i : ℕ} → Gathered p xs out n i → n + length (indicesFrom p i (drop i xs)) ≡ length (indicesFrom p 0 xs)
-  gathered-count {xs} {out} {n} {i} g = rw (← g .found, length-append, length-take-le n out (g .room))
-
-  -- there is room for one more
-  pub gathered-room : {xs : List A} {out : List ℕ} {n i : ℕ} → Gathered p xs out n i → length (indicesFrom p 0 xs) < length out → n < length out
-  gathered-room {xs} {out} {n} {i} g h = omega (arith, gathered-count g)
 
   -- element i is looked at: its place is written at n, and counts where it is of the kind
   pub gathered-more : {xs : List A} {out : List ℕ} {n i k : ℕ} (d : A) → Gathered p xs out n i → i < length xs → n < length out → k ≡ cond (p (getD xs i d)) 1 0 → Gathered p xs (set out n i) (n + k) (i + 1)

@@ -27,9 +27,6 @@ pub key-is : (c k : ℕ) → key c k ≡ c % 8388608 * 256 + k
 unfolding key
 key-is c k = refl
 
-pub key-low : (c k : ℕ) → k < 256 → key c k < 2 ^ 31
-key-low c k h = omega (arith, key-is c k)
-
 high : (r a k : ℕ) → r ≡ a * 256 + k → k < 256 → r / 256 ≡ a
 high r a k e h = let p : r / 256 ≤ a = omega arith in
     let q : a ≤ r / 256 = omega arith in

@@ -1,9 +1,9 @@
 // A sector's score sheet: due tracks in slot order, reports in batch order.
 ghost use mathlib.Core.Path.{_≡_};
 ghost use mathlib.Core.List.{_++_, map};
-ghost use Prim.Native.Nat.{ℕ, _+_, _*_, _≤_, _<_};
-ghost use lib.ListN.{length, drop, take};
-ghost use Rattle.intake.specs.Refusals.{input, dueSlots, Ready};
+ghost use Prim.Native.Nat.{_+_, _*_, _<_};
+ghost use lib.ListN.{length, drop};
+ghost use Rattle.intake.specs.Refusals.{input, Ready};
 ghost use Rattle.scoresheet.specs.Cells.{cellOf, pairCell, cellsOf};
 ghost use Rattle.scoresheet.specs.Call.{sheetedOf, sheetAfter};
 ghost use Rattle.scoresheet.specs.Ready.{RowReady, RowsReady};

@@ -5,7 +5,7 @@ use lib.Dec.{ltb}
 use lib.IntN.{ℤ, pos, negℤ, natAbs, _+ℤ_, _-ℤ_, _*ℤ_}
 use Rattle.numbers.specs.Scales.{rangeMost, rangeSpeedMost, azimuthSpeedMost}
 use Rattle.numbers.specs.Whole.{rounded, heldWithin, heldFromZero}
-use Rattle.numbers.specs.Azimuth.{azimuthDifference, azimuthMoved}
+use Rattle.numbers.specs.Azimuth.{azimuthMoved}
 use Rattle.numbers.specs.Sectors.{sectorOf, callsAhead}
 use Rattle.records.specs.declared.Track.{Track}
 use Rattle.records.specs.declared.Report.{Report}

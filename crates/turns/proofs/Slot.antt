@@ -8,7 +8,6 @@ use borrow.Author.Tests.{ltb-true, ltb-false, eqb-true, eqb-false, eq-eqb, ne-eq
 use lib.Dec.{eqb, ltb}
 use lib.ListN.{length, getD, set}
 use lib.Seq.{getD-set-same, getD-set-other, set-out}
-use Rattle.laws.proofs.Sizes.{mag-size}
 use Rattle.laws.proofs.Tests.{clash}
 use Rattle.numbers.specs.Scales.{sectors}
 use Rattle.numbers.specs.Sectors.{sectorOf}
@@ -18,7 +17,7 @@ use Rattle.records.specs.Fields.{free, held, WellFormed}
 use Rattle.laws.specs.Lists.{at}
 use Rattle.records.specs.Bytes.{slotBytes, waitAt, markAt, trackOf, bytesOf, reportOf, slotDue}
 use Rattle.records.proofs.Checked.{slot-well-formed, sound}
-use Rattle.records.proofs.RoundTrips.{Bytes, unpack-pack}
+use Rattle.records.proofs.RoundTrips.{Bytes}
 use Rattle.settling.specs.declared.Unpaired.{Unpaired}
 use Rattle.settling.specs.declared.Unpaired.the-variants.{Coasts, Dropped}
 use Rattle.settling.specs.Settle.{withoutPair, agedOf}
@@ -31,7 +30,8 @@ use Rattle.walk.proofs.Slots.{due-track, waits-on, aged-byte, missed-kept, miss
 use Rattle.walk.proofs.Settled.{rankOf, track-mark, settled-at, settles-at}
 use Rattle.fates.specs.Fates.{Handed, isFree, freeSlot, afterReport, reportNumbers, startedTable}
 use Rattle.laws.proofs.Rounds.{all-keep}
-use Rattle.fates.proofs.Starts.{mark-packed, GoodReports, report-keeps}
+use Rattle.records.proofs.Packed.{mark-packed, well-packed}
+use Rattle.fates.proofs.Starts.{GoodReports, report-keeps}
 use Rattle.sector.specs.Serve.{Lent, handedIn, reportsIn}
 use Rattle.promises.proofs.Slots.{left-slot, kept}
 use Rattle.turns.specs.Calls.{Accepted, slotAt, WaitsOn, ServedIn, TurnSet}
@@ -84,12 +84,7 @@ waits-one-less {l} {l′} a k h b m d =
 
 -- packed, it says the same
 packed-served : {t : Track} {s : ℕ} → ServedTrack t s → ServedTrack (trackOf (bytesOf t)) s
-packed-served {t} {s} w =
-    let e : trackOf (bytesOf t) ≡ t =
-    unpack-pack t
-    (record { fits = omega (arith, mag-size (t .«range_speed» .v), w .well .range-speed-in) })
-    (record { fits = omega (arith, mag-size (t .«azimuth_speed» .v), w .well .azimuth-speed-in) }) in
-    rw e w
+packed-served {t} {s} w = rw (well-packed t _ (w .well)) w
 
 -- a slot that is free, or holds a track as it leaves the call that served sector s
 pub record JustServed (s : ℕ) (slot : List ℕ) : Type 0 where

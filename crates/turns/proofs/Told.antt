@@ -17,7 +17,7 @@ use Rattle.scoresheet.proofs.Due.{due-lies, due-is-due}
 use Rattle.walk.specs.Table.{agedSlot, settledTable}
 use Rattle.walk.proofs.Settled.{rankOf, settled-at}
 use Rattle.fates.specs.Fates.{paired, started, isFree, ownerOf}
-use Rattle.fates.proofs.Starts.{mark-packed}
+use Rattle.records.proofs.Packed.{mark-packed}
 use Rattle.sector.specs.declared.Counts.{Counts}
 use Rattle.sector.specs.Serve.{Lent, handedIn}
 use Rattle.promises.specs.Words as words

@@ -7,19 +7,17 @@ use native.Mathlib.Nat.{zero-add}
 use native.Mathlib.Omega.{arith}
 use lib.Dec.{eqb}
 use lib.ListN.{length, getD, take}
-use borrow.Author.Tests.{eqb-true, eqb-false, ne-eqb}
+use borrow.Author.Tests.{eqb-true, eqb-false}
 use Rattle.laws.specs.Lists.{at, afterAll, indicesFrom}
 use Rattle.laws.specs.Sums.{Sum}
 use Rattle.laws.proofs.Fold.{length-outs}
-use Rattle.laws.proofs.Sizes.{mag-size}
 use Rattle.laws.proofs.Sums.{sum-add, sum-same}
 use Rattle.numbers.specs.Scales.{sectors}
 use Rattle.numbers.specs.Sectors.{nextSector}
-use Rattle.records.specs.declared.Track.{Track}
 use Rattle.records.specs.Fields.{free, held, trackFields, reportFields, badReportField, WellFormed}
 use Rattle.records.specs.Bytes.{markAt, trackOf, bytesOf, reportOf, badSlotField, slotDue}
-use Rattle.records.proofs.Checked.{all-fields-good, free-slot-good, slot-well-formed, sound}
-use Rattle.records.proofs.RoundTrips.{unpack-pack}
+use Rattle.records.proofs.Checked.{free-slot-good, slot-well-formed, sound}
+use Rattle.records.proofs.Packed.{packed-good}
 use Rattle.settling.specs.declared.Unpaired.{Unpaired}
 use Rattle.settling.specs.declared.Unpaired.the-variants.{Coasts, Dropped}
 use Rattle.settling.specs.Settle.{withoutPair, agedOf}
@@ -79,30 +77,15 @@ pub track-mark : (slot : List ℕ) → trackOf slot .mark ≡ held → at slot m
 unfolding trackOf
 track-mark slot e = e
 
-bytes-mark : (t : Track) → at (bytesOf t) markAt ≡ t .mark
-unfolding bytesOf
-bytes-mark t = refl
-
--- the bytes of a well-formed track
-good-bytes : (t : Track) (s : ℕ) → WellFormed t s → badSlotField (bytesOf t) s ≡ trackFields
-unfolding badSlotField
-good-bytes t s w =
-    let m : at (bytesOf t) markAt ≡ held = bytes-mark t ∙ w .is-held in
-    let e : trackOf (bytesOf t) ≡ t =
-    unpack-pack t
-    (record { fits = omega (arith, mag-size (t .«range_speed» .v), w .range-speed-in) })
-    (record { fits = omega (arith, mag-size (t .«azimuth_speed» .v), w .azimuth-speed-in) }) in
-    rw (ne-eqb (at (bytesOf t) markAt) free (λ z. omega (arith, m)), e) (all-fields-good t s w)
-
 paired-good : (s : ℕ) (report slot : List ℕ) → s < sectors → badReportField (reportOf report) ≡ reportFields → badSlotField (pairedSlot s report slot) (nextSector s) ≡ trackFields
 unfolding pairedSlot
-paired-good s report slot h e = good-bytes _ (nextSector s) (updated-served (trackOf slot) (reportOf report) s h (sound (reportOf report) e) .well)
+paired-good s report slot h e = packed-good _ (nextSector s) (updated-served (trackOf slot) (reportOf report) s h (sound (reportOf report) e) .well)
 
 missed-good : (s : ℕ) (slot : List ℕ) → s < sectors → WellFormed (trackOf slot) s → badSlotField (missedSlot s slot) (nextSector s) ≡ trackFields
 missed-good s slot h w = go (withoutPair (trackOf slot) s) refl
   where
     go : (u : Unpaired) → withoutPair (trackOf slot) s ≡ u → badSlotField (missedSlot s slot) (nextSector s) ≡ trackFields
-    go (Coasts t) e = rw (missed-kept s slot t e) (good-bytes t (nextSector s) (coasted-served (trackOf slot) t s h w e .well))
+    go (Coasts t) e = rw (missed-kept s slot t e) (packed-good t (nextSector s) (coasted-served (trackOf slot) t s h w e .well))
     go Dropped e = rw (missed-dropped s slot e) (freed-slot-good (nextSector s))
 
 aged-good : (s : ℕ) (slot : List ℕ) → badSlotField slot s ≡ trackFields → slotDue slot ≡ false → badSlotField (agedSlot slot) (nextSector s) ≡ trackFields
@@ -113,7 +96,7 @@ aged-good s slot g d = go (eqb (at slot markAt) held) refl (eqb (at slot markAt)
     go true m f q =
         let mark : at slot markAt ≡ held = eqb-true (at slot markAt) held m in
         let w : WellFormed (trackOf slot) s = slot-well-formed slot s g (λ z. omega arith) in
-        good-bytes _ (nextSector s) (aged-well-formed (trackOf slot) s w (track-waits-on slot d mark .1))
+        packed-good _ (nextSector s) (aged-well-formed (trackOf slot) s w (track-waits-on slot d mark .1))
     go false m true q = free-slot-good slot (nextSector s) (eqb-true (at slot markAt) free q)
     go false m false q =
         let w : WellFormed (trackOf slot) s = slot-well-formed slot s g (eqb-false (at slot markAt) free q) in
