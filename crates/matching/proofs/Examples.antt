@@ -59,7 +59,7 @@ pub not-admissible : checkAnswer 2 2 two (0 ∷ 1 ∷ []) (20 ∷ 22 ∷ []) (10
 unfolding checkAnswer sheetRefusal sizesOk holds cellsOk pairingOk each
 not-admissible = refl
 
-pub price-too-high : checkAnswer 2 2 two crossed (leftOut + 1 ∷ 22 ∷ []) (10 ∷ 0 ∷ []) ≡ 24
+pub price-too-high : checkAnswer 2 2 two crossed ((leftOut + 1) ∷ 22 ∷ []) (10 ∷ 0 ∷ []) ≡ 24
 unfolding checkAnswer sheetRefusal sizesOk holds cellsOk pairingOk numbersOk each
 price-too-high = refl
 

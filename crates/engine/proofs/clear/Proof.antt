@@ -30,18 +30,22 @@ same-length-4 : tie.Need-same-length-4
 same-length-4 c = search needs
 
 returns : tie.Need-returns
-returns c = let S = c .before .before .before .before .before .before .before .before .before .before .before .before .before .before .before .before .before .before .before .before .before .pre in (
-  blank _ _ _ _ _ _ _
-      (record { cells-long = S .cells-long; pairing-long = c .before .before .before .before .before .before .before .before .before .before .before .before .before .before .fill .ensures .0 ∙ S .pairing-long; owner-long = c .before .before .before .before .before .before .before .before .before .before .fill2 .ensures .0 ∙ S .owner-long; prices-long = c .before .before .before .before .before .before .fill3 .ensures .0; discounts-long = c .before .before .fill4 .ensures .0 ∙ S .discounts-long; tracks-few = S .tracks-few; reports-few = S .reports-few; cells-good = S .cells-good })
-      (λ i h. c .before .before .before .before .before .before .before .before .before .before .before .before .before .before .fill .ensures .1 i (omega (arith, S .pairing-long)))
-      (λ j h. c .before .before .before .before .before .before .before .before .before .before .fill2 .ensures .1 j (omega (arith, S .owner-long)))
-      (λ i h. c .before .before .before .before .before .before .fill3 .ensures .1 i h)
-      (λ j h. c .before .before .fill4 .ensures .1 j (omega (arith, S .discounts-long))),
-  (
-    λ i h. c .before .before .before .before .before .before .before .before .before .before .before .before .before .before .fill .ensures .1 i (omega (arith, S .pairing-long)),
-    λ j h. c .before .before .fill4 .ensures .1 j (omega (arith, S .discounts-long)),
-  ),
-)
+returns c =
+    let fill = c .before .before .before .before .before .before .before .before .before .before .before .before .before .before .fill in
+    let fill2 = c .before .before .before .before .before .before .before .before .before .before .fill2 in
+    let fill3 = c .before .before .before .before .before .before .fill3 in
+    let S = c .before .before .before .before .before .before .before .before .before .before .before .before .before .before .before .before .before .before .before .before .before .pre in (
+      blank _ _ _ _ _ _ _
+          (record { cells-long = S .cells-long; pairing-long = fill .ensures .0 ∙ S .pairing-long; owner-long = fill2 .ensures .0 ∙ S .owner-long; prices-long = fill3 .ensures .0; discounts-long = c .before .before .fill4 .ensures .0 ∙ S .discounts-long; tracks-few = S .tracks-few; reports-few = S .reports-few; cells-good = S .cells-good })
+          (λ i h. fill .ensures .1 i (omega (arith, S .pairing-long)))
+          (λ j h. fill2 .ensures .1 j (omega (arith, S .owner-long)))
+          (λ i h. fill3 .ensures .1 i h)
+          (λ j h. c .before .before .fill4 .ensures .1 j (omega (arith, S .discounts-long))),
+      (
+        λ i h. fill .ensures .1 i (omega (arith, S .pairing-long)),
+        λ j h. c .before .before .fill4 .ensures .1 j (omega (arith, S .discounts-long)),
+      ),
+    )
 
 pub clear-spec : {M : Type 1} → statement M
 clear-spec =

@@ -13,31 +13,49 @@ returns : tie.Need-returns
 returns c = refuses _ _ _ _ _ _ _ (c .before .sheet-refusal .ensures) (c .if1 .taken)
 
 mul-cells : tie.Need-mul-cells
-mul-cells c = omega (arith, sizes (c .before .before .before .before .before .before .args .tracks) (c .before .before .before .before .before .before .args .reports) (c .before .before .before .before .before .before .args .sheet .now) (c .before .before .before .before .before .before .args .pairing .now) (c .before .before .before .before .before .before .args .prices .now) (c .before .before .before .before .before .before .args .discounts .now) (sym (c .before .sheet-refusal .ensures) ∙ c .if1 .left) .cells-long)
+mul-cells c =
+    let given = c .before .before .before .before .before .before .args in
+    omega (arith, sizes (given .tracks) (given .reports) (given .sheet .now) (given .pairing .now) (given .prices .now) (given .discounts .now) (sym (c .before .sheet-refusal .ensures) ∙ c .if1 .left) .cells-long)
 
 slice-aggregate-pair-cells : tie.Need-slice-aggregate-pair-cells
-slice-aggregate-pair-cells c = sym (length-take-le _ _ (sizes (c .before .before .before .before .before .before .before .args .tracks) (c .before .before .before .before .before .before .before .args .reports) (c .before .before .before .before .before .before .before .args .sheet .now) (c .before .before .before .before .before .before .before .args .pairing .now) (c .before .before .before .before .before .before .before .args .prices .now) (c .before .before .before .before .before .before .before .args .discounts .now) (sym (c .before .before .sheet-refusal .ensures) ∙ c .before .if1 .left) .cells-long))
+slice-aggregate-pair-cells c =
+    let given = c .before .before .before .before .before .before .before .args in
+    sym (length-take-le _ _ (sizes (given .tracks) (given .reports) (given .sheet .now) (given .pairing .now) (given .prices .now) (given .discounts .now) (sym (c .before .before .sheet-refusal .ensures) ∙ c .before .if1 .left) .cells-long))
 
 slice-relend-prefix-pair-cells : tie.Need-slice-relend-prefix-pair-cells
-slice-relend-prefix-pair-cells c = sizes (c .before .before .before .before .before .before .before .args .tracks) (c .before .before .before .before .before .before .before .args .reports) (c .before .before .before .before .before .before .before .args .sheet .now) (c .before .before .before .before .before .before .before .args .pairing .now) (c .before .before .before .before .before .before .before .args .prices .now) (c .before .before .before .before .before .before .before .args .discounts .now) (sym (c .before .before .sheet-refusal .ensures) ∙ c .before .if1 .left) .pairing-long
+slice-relend-prefix-pair-cells c =
+    let given = c .before .before .before .before .before .before .before .args in
+    sizes (given .tracks) (given .reports) (given .sheet .now) (given .pairing .now) (given .prices .now) (given .discounts .now) (sym (c .before .before .sheet-refusal .ensures) ∙ c .before .if1 .left) .pairing-long
 
 slice-aggregate-pair-cells-2 : tie.Need-slice-aggregate-pair-cells-2
-slice-aggregate-pair-cells-2 c = sym (length-take-le _ _ (sizes (c .before .before .before .before .before .before .before .before .args .tracks) (c .before .before .before .before .before .before .before .before .args .reports) (c .before .before .before .before .before .before .before .before .args .sheet .now) (c .before .before .before .before .before .before .before .before .args .pairing .now) (c .before .before .before .before .before .before .before .before .args .prices .now) (c .before .before .before .before .before .before .before .before .args .discounts .now) (sym (c .before .before .before .sheet-refusal .ensures) ∙ c .before .before .if1 .left) .pairing-long))
+slice-aggregate-pair-cells-2 c =
+    let given = c .before .before .before .before .before .before .before .before .args in
+    sym (length-take-le _ _ (sizes (given .tracks) (given .reports) (given .sheet .now) (given .pairing .now) (given .prices .now) (given .discounts .now) (sym (c .before .before .before .sheet-refusal .ensures) ∙ c .before .before .if1 .left) .pairing-long))
 
 slice-relend-prefix-pair-cells-2 : tie.Need-slice-relend-prefix-pair-cells-2
-slice-relend-prefix-pair-cells-2 c = sizes (c .before .before .before .before .before .before .before .before .args .tracks) (c .before .before .before .before .before .before .before .before .args .reports) (c .before .before .before .before .before .before .before .before .args .sheet .now) (c .before .before .before .before .before .before .before .before .args .pairing .now) (c .before .before .before .before .before .before .before .before .args .prices .now) (c .before .before .before .before .before .before .before .before .args .discounts .now) (sym (c .before .before .before .sheet-refusal .ensures) ∙ c .before .before .if1 .left) .prices-long
+slice-relend-prefix-pair-cells-2 c =
+    let given = c .before .before .before .before .before .before .before .before .args in
+    sizes (given .tracks) (given .reports) (given .sheet .now) (given .pairing .now) (given .prices .now) (given .discounts .now) (sym (c .before .before .before .sheet-refusal .ensures) ∙ c .before .before .if1 .left) .prices-long
 
 slice-aggregate-pair-cells-3 : tie.Need-slice-aggregate-pair-cells-3
-slice-aggregate-pair-cells-3 c = sym (length-take-le _ _ (sizes (c .before .before .before .before .before .before .before .before .before .args .tracks) (c .before .before .before .before .before .before .before .before .before .args .reports) (c .before .before .before .before .before .before .before .before .before .args .sheet .now) (c .before .before .before .before .before .before .before .before .before .args .pairing .now) (c .before .before .before .before .before .before .before .before .before .args .prices .now) (c .before .before .before .before .before .before .before .before .before .args .discounts .now) (sym (c .before .before .before .before .sheet-refusal .ensures) ∙ c .before .before .before .if1 .left) .prices-long))
+slice-aggregate-pair-cells-3 c =
+    let given = c .before .before .before .before .before .before .before .before .before .args in
+    sym (length-take-le _ _ (sizes (given .tracks) (given .reports) (given .sheet .now) (given .pairing .now) (given .prices .now) (given .discounts .now) (sym (c .before .before .before .before .sheet-refusal .ensures) ∙ c .before .before .before .if1 .left) .prices-long))
 
 slice-relend-prefix-pair-cells-3 : tie.Need-slice-relend-prefix-pair-cells-3
-slice-relend-prefix-pair-cells-3 c = sizes (c .before .before .before .before .before .before .before .before .before .args .tracks) (c .before .before .before .before .before .before .before .before .before .args .reports) (c .before .before .before .before .before .before .before .before .before .args .sheet .now) (c .before .before .before .before .before .before .before .before .before .args .pairing .now) (c .before .before .before .before .before .before .before .before .before .args .prices .now) (c .before .before .before .before .before .before .before .before .before .args .discounts .now) (sym (c .before .before .before .before .sheet-refusal .ensures) ∙ c .before .before .before .if1 .left) .discounts-long
+slice-relend-prefix-pair-cells-3 c =
+    let given = c .before .before .before .before .before .before .before .before .before .args in
+    sizes (given .tracks) (given .reports) (given .sheet .now) (given .pairing .now) (given .prices .now) (given .discounts .now) (sym (c .before .before .before .before .sheet-refusal .ensures) ∙ c .before .before .before .if1 .left) .discounts-long
 
 slice-aggregate-pair-cells-4 : tie.Need-slice-aggregate-pair-cells-4
-slice-aggregate-pair-cells-4 c = sym (length-take-le _ _ (sizes (c .before .before .before .before .before .before .before .before .before .before .args .tracks) (c .before .before .before .before .before .before .before .before .before .before .args .reports) (c .before .before .before .before .before .before .before .before .before .before .args .sheet .now) (c .before .before .before .before .before .before .before .before .before .before .args .pairing .now) (c .before .before .before .before .before .before .before .before .before .before .args .prices .now) (c .before .before .before .before .before .before .before .before .before .before .args .discounts .now) (sym (c .before .before .before .before .before .sheet-refusal .ensures) ∙ c .before .before .before .before .if1 .left) .discounts-long))
+slice-aggregate-pair-cells-4 c =
+    let given = c .before .before .before .before .before .before .before .before .before .before .args in
+    sym (length-take-le _ _ (sizes (given .tracks) (given .reports) (given .sheet .now) (given .pairing .now) (given .prices .now) (given .discounts .now) (sym (c .before .before .before .before .before .sheet-refusal .ensures) ∙ c .before .before .before .before .if1 .left) .discounts-long))
 
 pair-cells-requires : tie.Need-pair-cells-requires
-pair-cells-requires c κs = tested (c .before .before .before .before .before .before .before .before .before .before .args .tracks) (c .before .before .before .before .before .before .before .before .before .before .args .reports) (c .before .before .before .before .before .before .before .before .before .before .args .sheet .now) (c .before .before .before .before .before .before .before .before .before .before .args .pairing .now) (c .before .before .before .before .before .before .before .before .before .before .args .prices .now) (c .before .before .before .before .before .before .before .before .before .before .args .discounts .now) (sym (c .before .before .before .before .before .sheet-refusal .ensures) ∙ c .before .before .before .before .if1 .left)
+pair-cells-requires c κs =
+    let given = c .before .before .before .before .before .before .before .before .before .before .args in
+    tested (given .tracks) (given .reports) (given .sheet .now) (given .pairing .now) (given .prices .now) (given .discounts .now) (sym (c .before .before .before .before .before .sheet-refusal .ensures) ∙ c .before .before .before .before .if1 .left)
 
 same-length : tie.Need-same-length
 same-length c = search needs
@@ -49,7 +67,9 @@ same-length-3 : tie.Need-same-length-3
 same-length-3 c = search needs
 
 returns-2 : tie.Need-returns-2
-returns-2 c = serves (c .before .before .before .before .before .before .before .before .before .before .before .before .before .before .before .before .before .args .tracks) (c .before .before .before .before .before .before .before .before .before .before .before .before .before .before .before .before .before .args .reports) (c .before .before .before .before .before .before .before .before .before .before .before .before .before .before .before .before .before .args .sheet .now) (c .before .before .before .before .before .before .before .before .before .before .before .before .before .before .before .before .before .args .pairing .now) (c .before .before .before .before .before .before .before .before .before .before .before .before .before .before .before .before .before .args .prices .now) (c .before .before .before .before .before .before .before .before .before .before .before .before .before .before .before .before .before .args .discounts .now) (sym (c .before .before .before .before .before .before .before .before .before .before .before .before .sheet-refusal .ensures) ∙ c .before .before .before .before .before .before .before .before .before .before .before .if1 .left) _ _ _ (c .before .before .before .before .before .before .pair-cells .ensures)
+returns-2 c =
+    let given = c .before .before .before .before .before .before .before .before .before .before .before .before .before .before .before .before .before .args in
+    serves (given .tracks) (given .reports) (given .sheet .now) (given .pairing .now) (given .prices .now) (given .discounts .now) (sym (c .before .before .before .before .before .before .before .before .before .before .before .before .sheet-refusal .ensures) ∙ c .before .before .before .before .before .before .before .before .before .before .before .if1 .left) _ _ _ (c .before .before .before .before .before .before .pair-cells .ensures)
 
 pub pair-sheet-spec : {M : Type 1} → statement M
 pair-sheet-spec =

@@ -10,13 +10,22 @@ idx-requires : tie.Need-idx-requires
 idx-requires c κs = search needs
 
 mul-a : tie.Need-mul-a
-mul-a c = omega (arith, c .before .before .before .before .before .before .pre .cells-long, row-in (c .idx .result) (length (c .before .before .before .before .before .before .args .prices .now)) (c .before .before .before .before .before .before .args .reports) (length (c .before .before .before .before .before .before .args .sheet .now)) (omega (arith, c .before .before .before .before .before .before .pre .track-in, c .idx .ensures)) (omega (arith, c .before .before .before .before .before .before .pre .cells-long)))
+mul-a c =
+    let p = c .before .before .before .before .before .before .pre in
+    let given = c .before .before .before .before .before .before .args in
+    omega (arith, p .cells-long, row-in (c .idx .result) (length (given .prices .now)) (given .reports) (length (given .sheet .now)) (omega (arith, p .track-in, c .idx .ensures)) (omega (arith, p .cells-long)))
 
 add-e : tie.Need-add-e
-add-e c = omega (arith, c .before .before .before .before .before .before .pre .cells-long, row-in (c .idx .result) (length (c .before .before .before .before .before .before .args .prices .now)) (c .before .before .before .before .before .before .args .reports) (length (c .before .before .before .before .before .before .args .sheet .now)) (omega (arith, c .before .before .before .before .before .before .pre .track-in, c .idx .ensures)) (omega (arith, c .before .before .before .before .before .before .pre .cells-long)))
+add-e c =
+    let p = c .before .before .before .before .before .before .pre in
+    let given = c .before .before .before .before .before .before .args in
+    omega (arith, p .cells-long, row-in (c .idx .result) (length (given .prices .now)) (given .reports) (length (given .sheet .now)) (omega (arith, p .track-in, c .idx .ensures)) (omega (arith, p .cells-long)))
 
 add-s : tie.Need-add-s
-add-s c = omega (arith, c .before .before .before .before .before .before .pre .first-in, row-in (c .idx .result) (length (c .before .before .before .before .before .before .args .prices .now)) (c .before .before .before .before .before .before .args .reports) (length (c .before .before .before .before .before .before .args .sheet .now)) (omega (arith, c .before .before .before .before .before .before .pre .track-in, c .idx .ensures)) (omega (arith, c .before .before .before .before .before .before .pre .cells-long)))
+add-s c =
+    let p = c .before .before .before .before .before .before .pre in
+    let given = c .before .before .before .before .before .before .args in
+    omega (arith, p .first-in, row-in (c .idx .result) (length (given .prices .now)) (given .reports) (length (given .sheet .now)) (omega (arith, p .track-in, c .idx .ensures)) (omega (arith, p .cells-long)))
 
 mul-price : tie.Need-mul-price
 mul-price c = search needs
@@ -25,7 +34,10 @@ shared-slice-read-price : tie.Need-shared-slice-read-price
 shared-slice-read-price c = search needs
 
 mul-relax : tie.Need-mul-relax
-mul-relax c = omega (arith, c .before .before .before .before .before .before .before .pre .first-in, row-in (c .before .idx .result) (length (c .before .before .before .before .before .before .before .args .prices .now)) (c .before .before .before .before .before .before .before .args .reports) (length (c .before .before .before .before .before .before .before .args .sheet .now)) (omega (arith, c .before .before .before .before .before .before .before .pre .track-in, c .before .idx .ensures)) (omega (arith, c .before .before .before .before .before .before .before .pre .cells-long)))
+mul-relax c =
+    let p = c .before .before .before .before .before .before .before .pre in
+    let given = c .before .before .before .before .before .before .before .args in
+    omega (arith, p .first-in, row-in (c .before .idx .result) (length (given .prices .now)) (given .reports) (length (given .sheet .now)) (omega (arith, p .track-in, c .before .idx .ensures)) (omega (arith, p .cells-long)))
 
 sub-relax : tie.Need-sub-relax
 sub-relax c = omega (arith, c .before .before .before .before .before .before .before .pre .first-in)
@@ -34,7 +46,10 @@ part-relax-start : tie.Need-part-relax-start
 part-relax-start c = omega (arith, c .before .before .before .before .before .before .before .pre .first-in)
 
 part-relax-end : tie.Need-part-relax-end
-part-relax-end c = omega (arith, row-in (c .before .idx .result) (length (c .before .before .before .before .before .before .before .args .prices .now)) (c .before .before .before .before .before .before .before .args .reports) (length (c .before .before .before .before .before .before .before .args .sheet .now)) (omega (arith, c .before .before .before .before .before .before .before .pre .track-in, c .before .idx .ensures)) (omega (arith, c .before .before .before .before .before .before .before .pre .cells-long)))
+part-relax-end c =
+    let given = c .before .before .before .before .before .before .before .args in
+    let p = c .before .before .before .before .before .before .before .pre in
+    omega (arith, row-in (c .before .idx .result) (length (given .prices .now)) (given .reports) (length (given .sheet .now)) (omega (arith, p .track-in, c .before .idx .ensures)) (omega (arith, p .cells-long)))
 
 mul-relax-2 : tie.Need-mul-relax-2
 mul-relax-2 c = search needs

@@ -7,13 +7,17 @@ use Rattle.queue.proofs.keep_row.Statement.{statement}
 use Rattle.queue.proofs.keep_row.Tie as tie
 
 mul-if1 : tie.Need-mul-if1
-mul-if1 c = omega (arith, c .before .before .before .before .before .before .pre .0 .shape .pairing-long, c .before .before .before .before .before .before .pre .0 .shape .tracks-few)
+mul-if1 c =
+    let p = c .before .before .before .before .before .before .pre in
+    omega (arith, p .0 .shape .pairing-long, p .0 .shape .tracks-few)
 
 shared-slice-read-if1 : tie.Need-shared-slice-read-if1
 shared-slice-read-if1 c = omega (arith, c .before .before .before .before .before .before .before .pre .0 .shape .pairing-long)
 
 returns : tie.Need-returns
-returns c = kept-none _ _ _ _ _ _ _ _ (c .before .before .before .before .before .before .before .before .pre .0) (c .before .before .before .before .before .before .before .before .pre .1 .0) (c .before .before .before .before .before .before .before .before .pre .1 .1) (c .if1 .taken)
+returns c =
+    let p = c .before .before .before .before .before .before .before .before .pre in
+    kept-none _ _ _ _ _ _ _ _ (p .0) (p .1 .0) (p .1 .1) (c .if1 .taken)
 
 mul-price : tie.Need-mul-price
 mul-price c = search needs
@@ -22,13 +26,22 @@ shared-slice-read-price : tie.Need-shared-slice-read-price
 shared-slice-read-price c = search needs
 
 mul-a : tie.Need-mul-a
-mul-a c = omega (arith, c .before .before .before .before .before .before .before .before .before .pre .0 .shape .cells-long, row-in (c .before .before .before .before .before .before .before .before .before .args .track) (length (c .before .before .before .before .before .before .before .before .before .args .prices .now)) (c .before .before .before .before .before .before .before .before .before .args .reports) (length (c .before .before .before .before .before .before .before .before .before .args .sheet .now)) (omega (arith, c .before .before .before .before .before .before .before .before .before .pre .1 .0)) (omega (arith, c .before .before .before .before .before .before .before .before .before .pre .0 .shape .cells-long)))
+mul-a c =
+    let p = c .before .before .before .before .before .before .before .before .before .pre in
+    let given = c .before .before .before .before .before .before .before .before .before .args in
+    omega (arith, p .0 .shape .cells-long, row-in (given .track) (length (given .prices .now)) (given .reports) (length (given .sheet .now)) (omega (arith, p .1 .0)) (omega (arith, p .0 .shape .cells-long)))
 
 add-e : tie.Need-add-e
-add-e c = omega (arith, c .before .before .before .before .before .before .before .before .before .pre .0 .shape .cells-long, row-in (c .before .before .before .before .before .before .before .before .before .args .track) (length (c .before .before .before .before .before .before .before .before .before .args .prices .now)) (c .before .before .before .before .before .before .before .before .before .args .reports) (length (c .before .before .before .before .before .before .before .before .before .args .sheet .now)) (omega (arith, c .before .before .before .before .before .before .before .before .before .pre .1 .0)) (omega (arith, c .before .before .before .before .before .before .before .before .before .pre .0 .shape .cells-long)))
+add-e c =
+    let p = c .before .before .before .before .before .before .before .before .before .pre in
+    let given = c .before .before .before .before .before .before .before .before .before .args in
+    omega (arith, p .0 .shape .cells-long, row-in (given .track) (length (given .prices .now)) (given .reports) (length (given .sheet .now)) (omega (arith, p .1 .0)) (omega (arith, p .0 .shape .cells-long)))
 
 mul-keep : tie.Need-mul-keep
-mul-keep c = omega (arith, c .before .before .before .before .before .before .before .before .before .pre .0 .shape .cells-long, row-in (c .before .before .before .before .before .before .before .before .before .args .track) (length (c .before .before .before .before .before .before .before .before .before .args .prices .now)) (c .before .before .before .before .before .before .before .before .before .args .reports) (length (c .before .before .before .before .before .before .before .before .before .args .sheet .now)) (omega (arith, c .before .before .before .before .before .before .before .before .before .pre .1 .0)) (omega (arith, c .before .before .before .before .before .before .before .before .before .pre .0 .shape .cells-long)))
+mul-keep c =
+    let p = c .before .before .before .before .before .before .before .before .before .pre in
+    let given = c .before .before .before .before .before .before .before .before .before .args in
+    omega (arith, p .0 .shape .cells-long, row-in (given .track) (length (given .prices .now)) (given .reports) (length (given .sheet .now)) (omega (arith, p .1 .0)) (omega (arith, p .0 .shape .cells-long)))
 
 sub-keep : tie.Need-sub-keep
 sub-keep c = search needs
@@ -37,16 +50,23 @@ part-keep-start : tie.Need-part-keep-start
 part-keep-start c = search needs
 
 part-keep-end : tie.Need-part-keep-end
-part-keep-end c = omega (arith, c .before .before .before .before .before .before .before .before .before .pre .0 .shape .cells-long, row-in (c .before .before .before .before .before .before .before .before .before .args .track) (length (c .before .before .before .before .before .before .before .before .before .args .prices .now)) (c .before .before .before .before .before .before .before .before .before .args .reports) (length (c .before .before .before .before .before .before .before .before .before .args .sheet .now)) (omega (arith, c .before .before .before .before .before .before .before .before .before .pre .1 .0)) (omega (arith, c .before .before .before .before .before .before .before .before .before .pre .0 .shape .cells-long)))
+part-keep-end c =
+    let p = c .before .before .before .before .before .before .before .before .before .pre in
+    let given = c .before .before .before .before .before .before .before .before .before .args in
+    omega (arith, p .0 .shape .cells-long, row-in (given .track) (length (given .prices .now)) (given .reports) (length (given .sheet .now)) (omega (arith, p .1 .0)) (omega (arith, p .0 .shape .cells-long)))
 
 keep-requires : tie.Need-keep-requires
-keep-requires c κs = row-slack _ _ _ _ _ _ _ _ (c .before .before .before .before .before .before .before .before .before .before .before .pre .0) (c .before .before .before .before .before .before .before .before .before .before .before .pre .1 .0) (c .before .before .before .before .before .before .before .before .before .before .before .pre .1 .1)
+keep-requires c κs =
+    let p = c .before .before .before .before .before .before .before .before .before .before .before .pre in
+    row-slack _ _ _ _ _ _ _ _ (p .0) (p .1 .0) (p .1 .1)
 
 same-length : tie.Need-same-length
 same-length c = search needs
 
 returns-2 : tie.Need-returns-2
-returns-2 c = kept-row _ _ _ _ _ _ _ _ (c .before .before .before .before .before .before .before .before .before .before .before .before .before .before .pre .0) (c .before .before .before .before .before .before .before .before .before .before .before .before .before .before .pre .1 .0) (c .before .before .before .before .before .before .before .before .before .before .before .before .before .before .pre .1 .1) _ (c .before .before .keep .ensures)
+returns-2 c =
+    let p = c .before .before .before .before .before .before .before .before .before .before .before .before .before .before .pre in
+    kept-row _ _ _ _ _ _ _ _ (p .0) (p .1 .0) (p .1 .1) _ (c .before .before .keep .ensures)
 
 pub keep-row-spec : {M : Type 1} → statement M
 keep-row-spec =

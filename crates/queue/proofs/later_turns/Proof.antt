@@ -20,10 +20,15 @@ fill-requires : tie.Need-fill-requires
 fill-requires c κs = search needs
 
 keep-all-requires : tie.Need-keep-all-requires
-keep-all-requires c κs = (c .before .before .before .before .before .before .before .before .before .before .before .before .before .before .before .before .before .before .before .before .before .before .pre .0, (c .before .before .before .before .before .before .before .fill .ensures .0 ∙ c .before .before .before .before .before .before .before .before .before .before .before .before .before .before .before .before .before .before .before .before .before .before .pre .1 .1, λ k h. omega (arith, c .before .before .before .before .before .before .before .fill .ensures .1 k (omega (arith, c .before .before .before .before .before .before .before .fill .ensures .0)))))
+keep-all-requires c κs =
+    let p = c .before .before .before .before .before .before .before .before .before .before .before .before .before .before .before .before .before .before .before .before .before .before .pre in
+    let fill = c .before .before .before .before .before .before .before .fill in
+    (p .0, (fill .ensures .0 ∙ p .1 .1, λ k h. omega (arith, fill .ensures .1 k (omega (arith, fill .ensures .0)))))
 
 lifted-turns-requires : tie.Need-lifted-turns-requires
-lifted-turns-requires c κs = (record { good = c .before .before .before .before .before .before .before .before .before .before .before .before .before .before .before .before .before .before .before .before .before .before .before .before .before .before .before .before .before .before .before .before .before .pre .0; slacks = c .before .before .before .before .before .before .before .before .before .before .keep-all .ensures }, c .before .before .before .before .before .before .before .before .before .before .before .before .before .before .before .before .before .before .before .before .before .before .before .before .before .before .before .before .before .before .before .before .before .pre .1 .0)
+lifted-turns-requires c κs =
+    let p = c .before .before .before .before .before .before .before .before .before .before .before .before .before .before .before .before .before .before .before .before .before .before .before .before .before .before .before .before .before .before .before .before .before .pre in
+    (record { good = p .0; slacks = c .before .before .before .before .before .before .before .before .before .before .keep-all .ensures }, p .1 .0)
 
 same-length-3 : tie.Need-same-length-3
 same-length-3 c = search needs

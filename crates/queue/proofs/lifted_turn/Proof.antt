@@ -10,13 +10,15 @@ lift-requires c κs = search needs
 
 insert-requires : tie.Need-insert-requires
 insert-requires c κs =
+    let p = c .before .before .before .before .before .before .before .before .before .before .before .before .before .before .before .before .before .before .before .before .before .before .before .before .before .before .before .before .pre in
     let L = c .before .before .before .before .before .before .before .before .before .before .before .before .before .lift .ensures in
-    to-search _ _ _ _ _ _ _ _ _ _ (good-len _ _ _ _ _ _ _ (L .good)) (c .before .before .before .before .before .before .before .before .before .before .before .before .before .before .before .before .before .before .before .before .before .before .before .before .before .before .before .before .pre .1 .0) (omega (arith, c .before .before .before .before .before .before .before .before .before .before .before .before .before .before .before .before .before .before .before .before .before .before .before .before .before .before .before .before .pre .1 .1 .0, L .good .shape .prices-long)) (c .before .before .before .before .before .before .before .before .before .before .before .before .before .before .before .before .before .before .before .before .before .before .before .before .before .before .before .before .pre .1 .1 .1)
+    to-search _ _ _ _ _ _ _ _ _ _ (good-len _ _ _ _ _ _ _ (L .good)) (p .1 .0) (omega (arith, p .1 .1 .0, L .good .shape .prices-long)) (p .1 .1 .1)
 
 tighten-requires : tie.Need-tighten-requires
 tighten-requires c κs =
+    let insert = c .before .before .before .before .before .before .before .before .before .before .before .before .before .before .before .before .insert in
     let L = c .before .before .before .before .before .before .before .before .before .before .before .before .before .before .before .before .before .before .before .before .before .before .before .before .before .before .before .before .before .before .lift .ensures in
-    search-slacks _ _ _ _ _ _ _ _ _ (lifting-at _ _ _ _ _ _ _ _ _ (sym (L .good .shape .prices-long)) L) _ _ _ _ _ _ (c .before .before .before .before .before .before .before .before .before .before .before .before .before .before .before .before .insert .ensures .0) (c .before .before .before .before .before .before .before .before .before .before .before .before .before .before .before .before .insert .ensures .1)
+    search-slacks _ _ _ _ _ _ _ _ _ (lifting-at _ _ _ _ _ _ _ _ _ (sym (L .good .shape .prices-long)) L) _ _ _ _ _ _ (insert .ensures .0) (insert .ensures .1)
 
 same-length : tie.Need-same-length
 same-length c = search needs
@@ -44,8 +46,9 @@ same-length-8 c = search needs
 
 returns : tie.Need-returns
 returns c =
+    let insert = c .before .before .before .before .before .before .before .before .before .before .before .before .before .before .before .before .before .before .before .insert in
     let L = c .before .before .before .before .before .before .before .before .before .before .before .before .before .before .before .before .before .before .before .before .before .before .before .before .before .before .before .before .before .before .before .before .before .lift .ensures in
-    lifting-at _ _ _ _ _ _ _ _ _ (L .good .shape .prices-long) (turned _ _ _ _ _ _ _ _ _ (lifting-at _ _ _ _ _ _ _ _ _ (sym (L .good .shape .prices-long)) L) _ _ _ _ _ _ (c .before .before .before .before .before .before .before .before .before .before .before .before .before .before .before .before .before .before .before .insert .ensures .0) (c .before .before .before .before .before .before .before .before .before .before .before .before .before .before .before .before .before .before .before .insert .ensures .1) _ (c .before .before .tighten .ensures))
+    lifting-at _ _ _ _ _ _ _ _ _ (L .good .shape .prices-long) (turned _ _ _ _ _ _ _ _ _ (lifting-at _ _ _ _ _ _ _ _ _ (sym (L .good .shape .prices-long)) L) _ _ _ _ _ _ (insert .ensures .0) (insert .ensures .1) _ (c .before .before .tighten .ensures))
 
 pub lifted-turn-spec : {M : Type 1} → statement M
 lifted-turn-spec =

@@ -8,7 +8,9 @@ first-turns-requires : tie.Need-first-turns-requires
 first-turns-requires c κs = search needs
 
 later-turns-requires : tie.Need-later-turns-requires
-later-turns-requires c κs = (good-len _ _ _ _ _ _ _ (c .before .before .before .before .before .before .before .before .before .before .before .before .before .before .before .before .before .before .before .before .before .before .first-turns .ensures), (record { labels-long = omega (arith, c .before .before .before .before .before .before .before .before .before .before .before .before .before .labels .given, c .before .before .before .before .before .before .before .before .before .before .before .before .before .before .before .before .before .before .before .before .before .before .before .before .before .before .before .before .before .before .before .before .before .before .before .before .before .before .before .pre .1 .0 .labels-long); via-long = omega (arith, c .before .before .before .before .before .before .before .before .before .before .before .via .given, c .before .before .before .before .before .before .before .before .before .before .before .before .before .before .before .before .before .before .before .before .before .before .before .before .before .before .before .before .before .before .before .before .before .before .before .before .before .before .before .pre .1 .0 .via-long); closings-long = omega (arith, c .before .before .before .before .before .before .before .before .before .closings .given, c .before .before .before .before .before .before .before .before .before .before .before .before .before .before .before .before .before .before .before .before .before .before .before .before .before .before .before .before .before .before .before .before .before .before .before .before .before .before .before .pre .1 .0 .closings-long) }, c .before .before .before .before .before .before .before .before .before .before .before .before .before .before .before .before .before .before .before .before .before .before .before .before .before .before .before .before .before .before .before .before .before .before .before .before .before .before .before .pre .1 .1))
+later-turns-requires c κs =
+    let p = c .before .before .before .before .before .before .before .before .before .before .before .before .before .before .before .before .before .before .before .before .before .before .before .before .before .before .before .before .before .before .before .before .before .before .before .before .before .before .before .pre in
+    (good-len _ _ _ _ _ _ _ (c .before .before .before .before .before .before .before .before .before .before .before .before .before .before .before .before .before .before .before .before .before .before .first-turns .ensures), (record { labels-long = omega (arith, c .before .before .before .before .before .before .before .before .before .before .before .before .before .labels .given, p .1 .0 .labels-long); via-long = omega (arith, c .before .before .before .before .before .before .before .before .before .before .before .via .given, p .1 .0 .via-long); closings-long = omega (arith, c .before .before .before .before .before .before .before .before .before .closings .given, p .1 .0 .closings-long) }, p .1 .1))
 
 same-length : tie.Need-same-length
 same-length c = search needs
