@@ -35,8 +35,9 @@ loop-less c = search needs
 
 loop-again : tie.Need-loop-again Inv-loop μ-loop
 loop-again c =
-    let l = length-take-le (c .before .before .before .before .before .args .reports) (c .before .before .before .before .before .args .fates .now) (c .before .before .before .before .before .pre .0) in
-    counted-more _ 0 (c .before .before .before .loop .inv) (rw l (c .before .before .loop-test .taken)) (rw (getD-take (c .before .before .before .before .before .args .reports) (c .before .before .before .before .before .args .fates .now) _ 0 (c .before .before .loop-test .taken)) (c .one-if .ensures .0))
+    let given = c .before .before .before .before .before .args in
+    let l = length-take-le (given .reports) (given .fates .now) (c .before .before .before .before .before .pre .0) in
+    counted-more _ 0 (c .before .before .before .loop .inv) (rw l (c .before .before .loop-test .taken)) (rw (getD-take (given .reports) (given .fates .now) _ 0 (c .before .before .loop-test .taken)) (c .one-if .ensures .0))
 
 returns : tie.Need-returns Inv-loop μ-loop
 unfolding countOf

@@ -18,20 +18,28 @@ shared-slice-read-k : tie.Need-shared-slice-read-k
 shared-slice-read-k c = search needs
 
 mul-slot : tie.Need-mul-slot
-mul-slot c = omega (arith, c .before .before .before .before .before .pre .0 .due-lies (c .before .before .owner-of .result) (omega (arith, c .before .before .before .before .before .pre .0 .entry-each)), c .before .before .before .before .before .pre .0 .few-slots)
+mul-slot c =
+    let p = c .before .before .before .before .before .pre in
+    omega (arith, p .0 .due-lies (c .before .before .owner-of .result) (omega (arith, p .0 .entry-each)), p .0 .few-slots)
 
 slice-copy-out-slot : tie.Need-slice-copy-out-slot
-slice-copy-out-slot c = c .before .before .before .before .before .pre .0 .due-lies (c .before .before .owner-of .result) (omega (arith, c .before .before .before .before .before .pre .0 .entry-each))
+slice-copy-out-slot c =
+    let p = c .before .before .before .before .before .pre in
+    p .0 .due-lies (c .before .before .owner-of .result) (omega (arith, p .0 .entry-each))
 
 cast-t20 : tie.Need-cast-t20
-cast-t20 c = omega (arith, c .before .before .before .before .before .before .pre .0 .due-lies (c .before .before .before .owner-of .result) (omega (arith, c .before .before .before .before .before .before .pre .0 .entry-each)), c .before .before .before .before .before .before .pre .0 .few-slots)
+cast-t20 c =
+    let p = c .before .before .before .before .before .before .pre in
+    omega (arith, p .0 .due-lies (c .before .before .before .owner-of .result) (omega (arith, p .0 .entry-each)), p .0 .few-slots)
 
 shown-mark-requires : tie.Need-shown-mark-requires
 shown-mark-requires c κs = search needs
 
 returns : tie.Need-returns
 unfolding toldOf toldPaired slotOf afterReport
-returns c = (rw (← c .before .before .before .before .owner-of .ensures, lt-ltb _ _ (c .before .before .before .if1 .taken), c .shown-mark .ensures), rw (← c .before .before .before .before .owner-of .ensures, lt-ltb _ _ (c .before .before .before .if1 .taken)))
+returns c =
+    let owner-of = c .before .before .before .before .owner-of in
+    (rw (← owner-of .ensures, lt-ltb _ _ (c .before .before .before .if1 .taken), c .shown-mark .ensures), rw (← owner-of .ensures, lt-ltb _ _ (c .before .before .before .if1 .taken)))
 
 mul-report : tie.Need-mul-report
 mul-report c = search needs
@@ -50,7 +58,10 @@ same-length c = search needs
 
 returns-2 : tie.Need-returns-2
 unfolding toldOf afterReport
-returns-2 c = (rw (← c .before .before .before .before .before .before .owner-of .ensures, le-ltb _ _ (c .before .before .before .before .before .if1 .left), ← c .before .before .unpack-report .ensures) (c .before .tell-unpaired .ensures .0), rw (← c .before .before .before .before .before .before .owner-of .ensures, le-ltb _ _ (c .before .before .before .before .before .if1 .left), ← c .before .before .unpack-report .ensures) (c .before .tell-unpaired .ensures .1))
+returns-2 c =
+    let owner-of = c .before .before .before .before .before .before .owner-of in
+    let if1 = c .before .before .before .before .before .if1 in
+    (rw (← owner-of .ensures, le-ltb _ _ (if1 .left), ← c .before .before .unpack-report .ensures) (c .before .tell-unpaired .ensures .0), rw (← owner-of .ensures, le-ltb _ _ (if1 .left), ← c .before .before .unpack-report .ensures) (c .before .tell-unpaired .ensures .1))
 
 pub tell-report-spec : {M : Type 1} → statement M
 tell-report-spec =

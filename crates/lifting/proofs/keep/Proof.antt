@@ -27,8 +27,9 @@ shared-slice-read-gap c = omega (arith, c .before .before .before .before .befor
 
 gap-requires : tie.Need-gap-requires Inv-loop μ-loop
 gap-requires c κs =
+    let p = c .before .before .before .before .before .pre in
     let g : c .before .before .loop .j < length (c .before .before .before .before .before .args .slack .now) = omega (arith, c .before .before .loop .inv .1 .0, c .before .loop-test .taken) in
-    (c .before .before .before .before .before .pre .cells-good (c .before .before .loop .j) g, c .before .before .before .before .before .pre .top)
+    (p .cells-good (c .before .before .loop .j) g, p .top)
 
 mul-low : tie.Need-mul-low Inv-loop μ-loop
 mul-low c = search needs
@@ -38,8 +39,9 @@ slice-read-low c = search needs
 
 low-requires : tie.Need-low-requires Inv-loop μ-loop
 low-requires c κs =
-    let g : c .before .before .before .before .loop .j < length (c .before .before .before .before .before .before .before .args .slack .now) = omega (arith, c .before .before .before .before .loop .inv .1 .0, c .before .before .before .loop-test .taken) in
-    (c .before .gap .ensures .0, omega (arith, c .before .before .before .before .before .before .before .pre .small (c .before .before .before .before .loop .j) g, c .before .before .before .before .loop .inv .1 .1 .1 (c .before .before .before .before .loop .j) (omega arith)))
+    let l = c .before .before .before .before .loop in
+    let g : l .j < length (c .before .before .before .before .before .before .before .args .slack .now) = omega (arith, l .inv .1 .0, c .before .before .before .loop-test .taken) in
+    (c .before .gap .ensures .0, omega (arith, c .before .before .before .before .before .before .before .pre .small (l .j) g, l .inv .1 .1 .1 (l .j) (omega arith)))
 
 mul-slack : tie.Need-mul-slack Inv-loop μ-loop
 mul-slack c = search needs
@@ -55,6 +57,7 @@ loop-less c = search needs
 
 loop-again : tie.Need-loop-again Inv-loop μ-loop
 loop-again c =
+    let given = c .before .before .before .before .before .before .before .before .args in
     let a = c .before .before .before .before .before .loop in
     let v = a .inv in
     let t = c .before .before .before .before .loop-test .taken in
@@ -64,9 +67,9 @@ loop-again c =
       (
         simp length-set (v .1 .0),
         (
-          upd (λ (k x : ℕ). (x ≤ at (c .before .before .before .before .before .before .before .before .args .slack .now) k) × (at (c .before .before .before .before .before .before .before .before .args .cells .now) k < far → x ≤ at (c .before .before .before .before .before .before .before .before .args .cells .now) k - c .before .before .before .before .before .before .before .before .args .price)) (a .slack) (a .j) _ t (v .1 .1 .0)
+          upd (λ (k x : ℕ). (x ≤ at (given .slack .now) k) × (at (given .cells .now) k < far → x ≤ at (given .cells .now) k - given .price)) (a .slack) (a .j) _ t (v .1 .1 .0)
               (omega (arith, l .1 .0, v .1 .1 .1 (a .j) (omega arith)), λ h. omega (arith, l .0, e .1 h)),
-          keep (a .slack) (c .before .before .before .before .before .before .before .before .args .slack .now) (a .j) _ (v .1 .1 .1),
+          keep (a .slack) (given .slack .now) (a .j) _ (v .1 .1 .1),
         ),
       ),
     )

@@ -36,8 +36,9 @@ if-paired-requires c κs = search needs
 
 add-a : tie.Need-add-a Inv-loop μ-loop
 add-a c =
-    let g : c .before .before .before .before .loop .j < length (c .before .before .before .before .before .before .before .args .a .now) = omega (arith, c .before .before .before .before .loop .inv .1 .0, c .before .before .before .loop-test .taken) in
-    omega (arith, c .before .before .before .before .before .before .before .pre .1 (c .before .before .before .before .loop .j) g, c .before .before .before .before .loop .inv .1 .1 .1 (c .before .before .before .before .loop .j) (omega arith), c .if-paired .ensures .0)
+    let l = c .before .before .before .before .loop in
+    let g : l .j < length (c .before .before .before .before .before .before .before .args .a .now) = omega (arith, l .inv .1 .0, c .before .before .before .loop-test .taken) in
+    omega (arith, c .before .before .before .before .before .before .before .pre .1 (l .j) g, l .inv .1 .1 .1 (l .j) (omega arith), c .if-paired .ensures .0)
 
 mul-a-2 : tie.Need-mul-a-2 Inv-loop μ-loop
 mul-a-2 c = search needs
@@ -53,6 +54,7 @@ loop-less c = search needs
 
 loop-again : tie.Need-loop-again Inv-loop μ-loop
 loop-again c =
+    let given = c .before .before .before .before .before .before .before .args in
     let p = c .before .before .before .before .loop in
     let v = p .inv in
     let t = c .before .before .before .loop-test .taken in
@@ -61,9 +63,9 @@ loop-again c =
       (
         simp length-set (v .1 .0),
         (
-          upd (λ (k y : ℕ). (at (c .before .before .before .before .before .before .before .args .other .now) k ≡ none → y ≡ at (c .before .before .before .before .before .before .before .args .a .now) k) × ((at (c .before .before .before .before .before .before .before .args .other .now) k ≡ none → ⊥) → y ≡ at (c .before .before .before .before .before .before .before .args .a .now) k + c .before .before .before .before .before .before .before .args .x)) (p .a) (p .j) _ t (v .1 .1 .0)
+          upd (λ (k y : ℕ). (at (given .other .now) k ≡ none → y ≡ at (given .a .now) k) × ((at (given .other .now) k ≡ none → ⊥) → y ≡ at (given .a .now) k + given .x)) (p .a) (p .j) _ t (v .1 .1 .0)
               (λ z. omega (arith, e .1 .0 z, v .1 .1 .1 (p .j) (omega arith)), λ z. omega (arith, e .1 .1 z, v .1 .1 .1 (p .j) (omega arith))),
-          keep (p .a) (c .before .before .before .before .before .before .before .args .a .now) (p .j) _ (v .1 .1 .1),
+          keep (p .a) (given .a .now) (p .j) _ (v .1 .1 .1),
         ),
       ),
     )

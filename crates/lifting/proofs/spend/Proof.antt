@@ -26,8 +26,9 @@ slice-read-beyond c = search needs
 
 beyond-requires : tie.Need-beyond-requires Inv-loop μ-loop
 beyond-requires c κs =
+    let p = c .before .before .before .before .pre in
     let g : c .before .before .loop .j < length (c .before .before .before .before .args .slack .now) = omega (arith, c .before .before .loop .inv .1 .0, c .before .loop-test .taken) in
-    (omega (arith, c .before .before .before .before .pre .1 (c .before .before .loop .j) g, c .before .before .loop .inv .1 .1 .1 (c .before .before .loop .j) (omega arith)), omega (arith, c .before .before .before .before .pre .0))
+    (omega (arith, p .1 (c .before .before .loop .j) g, c .before .before .loop .inv .1 .1 .1 (c .before .before .loop .j) (omega arith)), omega (arith, p .0))
 
 mul-slack : tie.Need-mul-slack Inv-loop μ-loop
 mul-slack c = search needs
@@ -43,6 +44,7 @@ loop-less c = search needs
 
 loop-again : tie.Need-loop-again Inv-loop μ-loop
 loop-again c =
+    let given = c .before .before .before .before .before .args in
     let a = c .before .before .before .loop in
     let v = a .inv in
     let t = c .before .before .loop-test .taken in (
@@ -50,9 +52,9 @@ loop-again c =
       (
         simp length-set (v .1 .0),
         (
-          upd (λ (k y : ℕ). y ≡ at (c .before .before .before .before .before .args .slack .now) k - c .before .before .before .before .before .args .x) (a .slack) (a .j) _ t (v .1 .1 .0)
+          upd (λ (k y : ℕ). y ≡ at (given .slack .now) k - given .x) (a .slack) (a .j) _ t (v .1 .1 .0)
               (omega (arith, c .beyond .ensures, v .1 .1 .1 (a .j) (omega arith))),
-          keep (a .slack) (c .before .before .before .before .before .args .slack .now) (a .j) _ (v .1 .1 .1),
+          keep (a .slack) (given .slack .now) (a .j) _ (v .1 .1 .1),
         ),
       ),
     )

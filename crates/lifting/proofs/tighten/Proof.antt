@@ -25,7 +25,9 @@ shared-slice-read-beyond : tie.Need-shared-slice-read-beyond Inv-loop μ-loop
 shared-slice-read-beyond c = omega (arith, c .before .before .before .before .before .pre .same, c .before .before .loop .inv .1 .0)
 
 beyond-requires : tie.Need-beyond-requires Inv-loop μ-loop
-beyond-requires c κs = (omega (arith, c .before .before .before .before .before .pre .labels-small (c .before .before .loop .j) (omega (arith, c .before .before .before .before .before .pre .same, c .before .before .loop .inv .1 .0, c .before .loop-test .taken))), omega (arith, c .before .before .before .before .before .pre .end))
+beyond-requires c κs =
+    let p = c .before .before .before .before .before .pre in
+    (omega (arith, p .labels-small (c .before .before .loop .j) (omega (arith, p .same, c .before .before .loop .inv .1 .0, c .before .loop-test .taken))), omega (arith, p .end))
 
 mul-low : tie.Need-mul-low Inv-loop μ-loop
 mul-low c = search needs
@@ -35,8 +37,10 @@ slice-read-low c = search needs
 
 low-requires : tie.Need-low-requires Inv-loop μ-loop
 low-requires c κs =
-    let g : c .before .before .before .before .loop .j < length (c .before .before .before .before .before .before .before .args .slack .now) = omega (arith, c .before .before .before .before .loop .inv .1 .0, c .before .before .before .loop-test .taken) in
-    (omega (arith, c .before .beyond .ensures, c .before .before .before .before .before .before .before .pre .labels-small (c .before .before .before .before .loop .j) (omega (arith, c .before .before .before .before .before .before .before .pre .same))), omega (arith, c .before .before .before .before .before .before .before .pre .small (c .before .before .before .before .loop .j) g, c .before .before .before .before .loop .inv .1 .1 .1 (c .before .before .before .before .loop .j) (omega arith)))
+    let p = c .before .before .before .before .before .before .before .pre in
+    let l = c .before .before .before .before .loop in
+    let g : l .j < length (c .before .before .before .before .before .before .before .args .slack .now) = omega (arith, l .inv .1 .0, c .before .before .before .loop-test .taken) in
+    (omega (arith, c .before .beyond .ensures, p .labels-small (l .j) (omega (arith, p .same))), omega (arith, p .small (l .j) g, l .inv .1 .1 .1 (l .j) (omega arith)))
 
 mul-slack : tie.Need-mul-slack Inv-loop μ-loop
 mul-slack c = search needs
@@ -52,6 +56,7 @@ loop-less c = search needs
 
 loop-again : tie.Need-loop-again Inv-loop μ-loop
 loop-again c =
+    let given = c .before .before .before .before .before .before .before .before .args in
     let a = c .before .before .before .before .before .loop in
     let v = a .inv in
     let t = c .before .before .before .before .loop-test .taken in
@@ -60,9 +65,9 @@ loop-again c =
       (
         simp length-set (v .1 .0),
         (
-          upd (λ (k x : ℕ). (x ≤ at (c .before .before .before .before .before .before .before .before .args .slack .now) k) × (x ≤ at (c .before .before .before .before .before .before .before .before .args .labels .now) k - c .before .before .before .before .before .before .before .before .args .d)) (a .slack) (a .j) _ t (v .1 .1 .0)
+          upd (λ (k x : ℕ). (x ≤ at (given .slack .now) k) × (x ≤ at (given .labels .now) k - given .d)) (a .slack) (a .j) _ t (v .1 .1 .0)
               (omega (arith, l .1 .0, v .1 .1 .1 (a .j) (omega arith)), omega (arith, l .0, c .before .before .beyond .ensures)),
-          keep (a .slack) (c .before .before .before .before .before .before .before .before .args .slack .now) (a .j) _ (v .1 .1 .1),
+          keep (a .slack) (given .slack .now) (a .j) _ (v .1 .1 .1),
         ),
       ),
     )

@@ -21,9 +21,10 @@ index-requires c κs = search needs
 
 returns-2 : tie.Need-returns-2
 returns-2 c =
-    let x : ℕ = at (c .before .before .before .before .before .before .args .pairing .now) (c .before .before .before .before .before .before .args .i) in
-    let h : c .before .before .before .before .before .before .args .reports ≤ x = omega arith in
-    rw (ne-eqb x none (c .before .before .if1 .left), le-ltb x (c .before .before .before .before .before .before .args .reports) h)
+    let given = c .before .before .before .before .before .before .args in
+    let x : ℕ = at (given .pairing .now) (given .i) in
+    let h : given .reports ≤ x = omega arith in
+    rw (ne-eqb x none (c .before .before .if1 .left), le-ltb x (given .reports) h)
 
 mul-at : tie.Need-mul-at
 mul-at c = search needs
@@ -39,18 +40,20 @@ shared-slice-read-if3 c = search needs
 
 returns-3 : tie.Need-returns-3
 returns-3 c =
-    let x : ℕ = at (c .before .before .before .before .before .before .before .before .args .pairing .now) (c .before .before .before .before .before .before .before .before .args .i) in
-    let h : x < c .before .before .before .before .before .before .before .before .args .reports = omega arith in
-    rw (ne-eqb x none (c .before .before .before .before .if1 .left), lt-ltb x (c .before .before .before .before .before .before .before .before .args .reports) h, eq-eqb _ none (rw (c .before .before .before .index .ensures) at (c .if3 .taken)))
+    let given = c .before .before .before .before .before .before .before .before .args in
+    let x : ℕ = at (given .pairing .now) (given .i) in
+    let h : x < given .reports = omega arith in
+    rw (ne-eqb x none (c .before .before .before .before .if1 .left), lt-ltb x (given .reports) h, eq-eqb _ none (rw (c .before .before .before .index .ensures) at (c .if3 .taken)))
 
 fresh-requires : tie.Need-fresh-requires
 fresh-requires c κs = search needs
 
 returns-4 : tie.Need-returns-4
 returns-4 c =
-    let x : ℕ = at (c .before .before .before .before .before .before .before .before .before .args .pairing .now) (c .before .before .before .before .before .before .before .before .before .args .i) in
-    let h : x < c .before .before .before .before .before .before .before .before .before .args .reports = omega arith in
-    rw (ne-eqb x none (c .before .before .before .before .before .if1 .left), lt-ltb x (c .before .before .before .before .before .before .before .before .before .args .reports) h, ne-eqb _ none (rw (c .before .before .before .before .index .ensures) at (c .before .if3 .left)), c .fresh .ensures)
+    let given = c .before .before .before .before .before .before .before .before .before .args in
+    let x : ℕ = at (given .pairing .now) (given .i) in
+    let h : x < given .reports = omega arith in
+    rw (ne-eqb x none (c .before .before .before .before .before .if1 .left), lt-ltb x (given .reports) h, ne-eqb _ none (rw (c .before .before .before .before .index .ensures) at (c .before .if3 .left)), c .fresh .ensures)
 
 pub entry-ok-spec : {M : Type 1} → statement M
 entry-ok-spec =

@@ -34,7 +34,9 @@ nearest-requires : tie.Need-nearest-requires
 nearest-requires c κs = from-labels _ _ _ _ (c .before .before .before .before .pre)
 
 add-result : tie.Need-add-result
-add-result c = omega (arith, c .nearest .ensures .upto, part-length (c .before .before .before .before .before .args .labels .now) (c .before .before .before .before .before .args .lo) (length (c .before .before .before .before .before .args .labels .now)) (omega arith), c .before .before .before .before .before .pre .upto)
+add-result c =
+    let given = c .before .before .before .before .before .args in
+    omega (arith, c .nearest .ensures .upto, part-length (given .labels .now) (given .lo) (length (given .labels .now)) (omega arith), c .before .before .before .before .before .pre .upto)
 
 returns : tie.Need-returns
 returns c = from-nearest _ _ _ _ (c .before .before .before .before .before .pre) _ (c .nearest .ensures)

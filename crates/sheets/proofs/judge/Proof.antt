@@ -16,7 +16,10 @@ wrapping-sub-u64-requires : tie.Need-wrapping-sub-u64-requires
 wrapping-sub-u64-requires c κs = search needs
 
 least-total-requires : tie.Need-least-total-requires
-least-total-requires c κs = (c .before .before .before .before .before .before .pre .0, (c .before .before .before .before .before .before .pre .1 .0, (omega (arith, small (c .before .before .before .before .before .before .args .tracks) (c .before .before .before .before .before .before .args .reports) (c .before .before .before .before .before .before .pre .0) (c .before .before .before .before .before .before .pre .1 .0)), (omega arith, omega arith))))
+least-total-requires c κs =
+    let p = c .before .before .before .before .before .before .pre in
+    let given = c .before .before .before .before .before .before .args in
+    (p .0, (p .1 .0, (omega (arith, small (given .tracks) (given .reports) (p .0) (p .1 .0)), (omega arith, omega arith))))
 
 cast-one-if : tie.Need-cast-one-if
 cast-one-if c = search needs

@@ -28,10 +28,14 @@ wrapping-add-u64-requires : tie.Need-wrapping-add-u64-requires Inv-loop μ-loop
 wrapping-add-u64-requires c κs = search needs
 
 mul-score-at : tie.Need-mul-score-at Inv-loop μ-loop
-mul-score-at c = omega (arith, small (c .before .before .before .before .before .loop .i) (c .before .before .before .before .before .before .before .before .args .reports) (omega (arith, c .before .before .before .before .before .before .before .before .pre .0)) (c .before .before .before .before .before .before .before .before .pre .1))
+mul-score-at c =
+    let p = c .before .before .before .before .before .before .before .before .pre in
+    omega (arith, small (c .before .before .before .before .before .loop .i) (c .before .before .before .before .before .before .before .before .args .reports) (omega (arith, p .0)) (p .1))
 
 add-score-at : tie.Need-add-score-at Inv-loop μ-loop
-add-score-at c = omega (arith, small (c .before .before .before .before .before .loop .i) (c .before .before .before .before .before .before .before .before .args .reports) (omega (arith, c .before .before .before .before .before .before .before .before .pre .0)) (c .before .before .before .before .before .before .before .before .pre .1), c .before .before .before .before .before .before .before .before .pre .1)
+add-score-at c =
+    let p = c .before .before .before .before .before .before .before .before .pre in
+    omega (arith, small (c .before .before .before .before .before .loop .i) (c .before .before .before .before .before .before .before .before .args .reports) (omega (arith, p .0)) (p .1), p .1)
 
 score-at-requires : tie.Need-score-at-requires Inv-loop μ-loop
 score-at-requires c κs = search needs
