@@ -8,7 +8,7 @@ use native.Mathlib.Omega.{arith}
 use borrow.Author.Tests.{leb-true}
 use Rattle.laws.proofs.Search.{first-upto}
 use Rattle.laws.proofs.Tests.{none-fails}
-use Rattle.intake.specs.Refusals.{Input, faultOf, refusalOf, noRoom}
+use Rattle.intake.specs.Refusals.{Input, faultOf, noRoom}
 use Rattle.intake.proofs.Readiness.{refused-by-fault, refused-by-room}
 use Rattle.sector.specs.declared.Counts.{Counts}
 use Rattle.sector.specs.declared.Served.{Served}
@@ -78,7 +78,7 @@ by-room i l e h =
 pub by-serving : (i : Input) (l l′ : Lent) (counts : Counts) → faultOf i ≡ 0 → roomFor i l ≡ true → ServedWith i l l′ counts → ServesSector i l l′ (Done counts)
 unfolding sectorRefusal
 by-serving i l l′ counts e h w =
-    let z : refusalOf i (roomFor i l) ≡ 0 = refused-by-room i (roomFor i l) e ∙ ap (λ (b : Bool). cond b 0 noRoom) h in
+    let z : sectorRefusal i l ≡ 0 = refused-by-room i (roomFor i l) e ∙ ap (λ (b : Bool). cond b 0 noRoom) h in
     record {
       counts = counts;
       answered = sym (done-by counts z);
