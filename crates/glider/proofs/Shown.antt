@@ -52,7 +52,7 @@ kept-is-shown = refl
 pub call-shows-the-glider : (l′ : Lent) (answer : Served) → ServesSector scene lists l′ answer → l′ .shown ≡ bothShown
 unfolding afterOf
 call-shows-the-glider l′ answer s =
-    let w = s .served not-refused .rest in
+    let w = s .served not-refused in
     ap (λ (l : Lent). l .shown) (w .left)
     ∙ ap (λ (P : List ℕ). shownOf (reportsIn scene) P (settledTable scene P) ++ drop (reportsOf scene) (0 ∷ 0 ∷ [])) (chosen-is-kept (w .chosen) (w .choice))
     ∙ kept-is-shown

@@ -1,6 +1,6 @@
 -- A call as a whole: when it is refused, and that all but the choice of a best pairing and its prices is settled.
 use Prim.Native.Nat.{ℕ}
-use mathlib.Core.Path.{_≡_, refl, sym, _∙_}
+use mathlib.Core.Path.{_≡_, refl, sym, ap, _∙_}
 use mathlib.Core.List.{List}
 use mathlib.Core.Logic.{⊎-elim}
 use native.Mathlib.Omega.{arith}
@@ -13,7 +13,8 @@ use Rattle.scoresheet.specs.Cells.{tracksOf, reportsOf, cellsOf, sectorSheet}
 use Rattle.sector.specs.declared.Counts.{Counts}
 use Rattle.sector.specs.declared.Served.{Served}
 use Rattle.sector.specs.declared.Served.the-variants.{Refused, Done}
-use Rattle.sector.specs.Serve.{Lent, sectorRefusal, Chosen, Choice, tally, countsOf, ServedWith, ServedAs, ServesSector}
+use Rattle.sector.specs.Serve.{Lent, sectorRefusal, Chosen, Choice, tally, countsOf, ServedWith, ServesSector}
+use Rattle.sector.proofs.Answering.{answers-refused, answers-done}
 use Rattle.promises.specs.Words.{RefusedExactlyWhen, SameScore}
 
 -- ---- refusals
@@ -22,21 +23,20 @@ use Rattle.promises.specs.Words.{RefusedExactlyWhen, SameScore}
 pub refused-exactly-when : (i : Input) (l l′ : Lent) (answer : Served) → ServesSector i l l′ answer → (k : ℕ) → RefusedExactlyWhen i l l′ answer k
 refused-exactly-when i l l′ answer R k =
     ⊎-elim
-    (λ z. let s = R .served z in record { only = λ e. absurd (apart s e); when = λ e n. absurd (n (sym e ∙ z)); kept = λ e. absurd (apart s e) })
+    (λ z. record { only = λ e. absurd (apart z e); when = λ e n. absurd (n (sym e ∙ z)); kept = λ e. absurd (apart z e) })
     (λ n.
-    let r = R .refused n in
-    let a : answer ≡ Refused (sectorRefusal i l) = r .0 in
+    let a : answer ≡ Refused (sectorRefusal i l) = answers-refused R n in
     record {
       only = λ e. (same a e, λ z. n (same a e ∙ z));
       when = λ e h. rw (← e) a;
-      kept = λ e. r .1;
+      kept = λ e. R .refused n;
     })
     (same-or (sectorRefusal i l) 0)
   where
-    apart : ServedAs i l l′ answer → answer ≡ Refused k → ⊥
-    apart s e =
-        let d : answer ≡ Done (s .counts) = s .done in
-        let z : _≡_ {A = ℕ} 0 1 = cc in
+    apart : sectorRefusal i l ≡ 0 → answer ≡ Refused k → ⊥
+    apart z e =
+        let d : answer ≡ Done (R .counts) = answers-done R z in
+        let no : _≡_ {A = ℕ} 0 1 = cc in
         omega arith
 
     same : {m : ℕ} → answer ≡ Refused m → answer ≡ Refused k → m ≡ k
@@ -44,25 +44,22 @@ refused-exactly-when i l l′ answer R k =
 
 -- In every other case it is served, and answers by its counts.
 pub done-otherwise : (i : Input) (l l′ : Lent) (answer : Served) → ServesSector i l l′ answer → sectorRefusal i l ≡ 0 → (counts : Counts) × (answer ≡ Done counts)
-done-otherwise i l l′ answer R e = (R .served e .counts, R .served e .done)
+done-otherwise i l l′ answer R e = (R .counts, answers-done R e)
 
 -- ---- what is settled
 
 -- Two results of one call whose pairing, prices and discounts are the same are the same in every byte and in the answer.
-pub settled : (i : Input) (l l₁ l₂ : Lent) (a₁ a₂ : Served) (R : ServesSector i l l₁ a₁) (Q : ServesSector i l l₂ a₂) → ((e : sectorRefusal i l ≡ 0) → R .served e .rest .chosen ≡ Q .served e .rest .chosen) → (l₁ ≡ l₂) × (a₁ ≡ a₂)
+pub settled : (i : Input) (l l₁ l₂ : Lent) (a₁ a₂ : Served) (R : ServesSector i l l₁ a₁) (Q : ServesSector i l l₂ a₂) → ((e : sectorRefusal i l ≡ 0) → R .served e .chosen ≡ Q .served e .chosen) → (l₁ ≡ l₂) × (a₁ ≡ a₂)
 settled i l l₁ l₂ a₁ a₂ R Q same =
     ⊎-elim
     (λ z.
     let r = R .served z in
     let q = Q .served z in
-    let c : r .rest .chosen ≡ q .rest .chosen = same z in (
-      r .rest .left ∙ rw c (sym (q .rest .left)),
-      r .done ∙ rw (r .rest .counted, c) (rw (q .rest .counted) at (sym (q .done))),
+    let c : r .chosen ≡ q .chosen = same z in (
+      r .left ∙ rw c (sym (q .left)),
+      answers-done R z ∙ ap Done (r .counted ∙ rw c (sym (q .counted))) ∙ sym (answers-done Q z),
     ))
-    (λ n.
-    let r = R .refused n in
-    let q = Q .refused n in
-    (r .1 ∙ sym (q .1), r .0 ∙ sym (q .0)))
+    (λ n. (R .refused n ∙ sym (Q .refused n), answers-refused R n ∙ sym (answers-refused Q n)))
     (same-or (sectorRefusal i l) 0)
 
 -- The pairing of a served call is best for the sector's sheet: no one-to-one pairing of admissible pairs has more pairs, or as many at a lower

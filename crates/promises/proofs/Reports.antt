@@ -1,15 +1,14 @@
 -- What a served call tells its reports: who is paired with whom, in which slot, and who is shown.
-use Prim.Native.Nat.{ℕ, zero, suc, _+_, _≤_, _<_, min}
+use Prim.Native.Nat.{ℕ, _+_, _≤_, _<_, min}
 use mathlib.Core.Path.{_≡_, refl, sym, ap, _∙_}
 use mathlib.Core.Logic.{⊎-elim}
 use mathlib.Core.Bool.{Bool, true, false, cond}
-use mathlib.Core.List.{List, [], _∷_}
-use native.Mathlib.Nat.{le-of-suc-le-suc, not-suc-le-zero}
+use mathlib.Core.List.{List, []}
 use native.Mathlib.Omega.{arith}
 use borrow.Author.Tests.{lt-ltb, le-ltb, eqb-true, eq-eqb, ne-eqb, le-leb, lt-leb}
 use lib.Dec.{eqb, leb, ltb}
 use lib.ListN.{length, getD}
-use Rattle.laws.specs.Lists.{at, firstIndex, indicesFrom}
+use Rattle.laws.specs.Lists.{at, firstIndex}
 use Rattle.laws.proofs.Search.{first-before, first-found}
 use Rattle.laws.proofs.Stores.{le-or-lt}
 use Rattle.laws.proofs.Tests.{clash}
@@ -23,7 +22,7 @@ use Rattle.matching.specs.Pairing.{none, HasReport}
 use Rattle.intake.specs.Refusals.{Input, dueSlots}
 use Rattle.scoresheet.specs.Cells.{tracksOf, reportsOf}
 use Rattle.scoresheet.proofs.Due.{due-lies, due-is-due}
-use Rattle.laws.proofs.Ranks.{named}
+use Rattle.laws.proofs.Places.{rising}
 use Rattle.walk.specs.Table.{pairedSlot, settledSlot, settledTable}
 use Rattle.walk.proofs.Settled.{rankOf, due-at-rank, settled-at}
 use Rattle.fates.specs.declared.Told.{Told}
@@ -38,26 +37,13 @@ use Rattle.promises.proofs.Pairings.{few-reports, one-to-one}
 
 -- ---- due tracks have slots of their own
 
--- a list of places rises
-module _ {A : Type 0} (p : A → Bool) where
-  rises : (base : ℕ) (xs : List A) (d : A) (a b : ℕ) → a < b → b < length (indicesFrom p base xs) → getD (indicesFrom p base xs) a 0 < getD (indicesFrom p base xs) b 0
-  unfolding indicesFrom
-  rises base [] d a b h l = absurd (not-suc-le-zero l)
-  rises base (x ∷ xs) d a b h l = go (p x) a b h l (rises (suc base) xs d)
-    where
-      go : (t : Bool) (a b : ℕ) → a < b → b < length (cond t (base ∷ indicesFrom p (suc base) xs) (indicesFrom p (suc base) xs)) → ((a b : ℕ) → a < b → b < length (indicesFrom p (suc base) xs) → getD (indicesFrom p (suc base) xs) a 0 < getD (indicesFrom p (suc base) xs) b 0) → getD (cond t (base ∷ indicesFrom p (suc base) xs) (indicesFrom p (suc base) xs)) a 0 < getD (cond t (base ∷ indicesFrom p (suc base) xs) (indicesFrom p (suc base) xs)) b 0
-      go true a zero h l rest = absurd (not-suc-le-zero h)
-      go true zero (suc b) h l rest = named p (suc base) xs d b (le-of-suc-le-suc l) .from
-      go true (suc a) (suc b) h l rest = rest a b (le-of-suc-le-suc h) (le-of-suc-le-suc l)
-      go false a b h l rest = rest a b h l
-
 -- Two due tracks in one slot are the same track.
 pub due-slots-differ : (i : Input) (n k : ℕ) → n < tracksOf i → k < tracksOf i → slotOfDue i n ≡ slotOfDue i k → n ≡ k
 unfolding tracksOf dueSlots
 due-slots-differ i n k a b e =
     ⊎-elim
-    (λ l. ⊎-elim (λ m. omega arith) (λ m. absurd (omega (arith, rises slotDue 0 (i .table) [] n k m b))) (le-or-lt k n))
-    (λ l. absurd (omega (arith, rises slotDue 0 (i .table) [] k n l a)))
+    (λ l. ⊎-elim (λ m. omega arith) (λ m. absurd (omega (arith, rising slotDue 0 (i .table) [] n k m b))) (le-or-lt k n))
+    (λ l. absurd (omega (arith, rising slotDue 0 (i .table) [] k n l a)))
     (le-or-lt n k)
 
 -- the n-th due track's rank is n

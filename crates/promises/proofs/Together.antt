@@ -26,6 +26,7 @@ use Rattle.scoresheet.proofs.SheetLaws.{cells-length, sheet-in-range}
 use Rattle.sector.specs.declared.Served.{Served}
 use Rattle.sector.specs.declared.Served.the-variants.{Refused, Done}
 use Rattle.sector.specs.Serve.{Lent, sectorRefusal, Chosen, Choice, countsOf, afterOf, ServesSector}
+use Rattle.sector.proofs.Answering.{done-by}
 use Rattle.promises.specs.Words.{firstOf, RoomToPair, Together, RefusedAlike}
 use Rattle.promises.proofs.Calls.{refused-exactly-when}
 
@@ -162,8 +163,10 @@ module _ (i : Input) (rest : List ℕ) (r : Ready i) (p u v : List ℕ) (room : 
 -- A sector call that is not refused may answer with any choice: with exactly that pairing, those prices and those discounts.
 pub sector-call-may-answer-so : (i : Input) (l : Lent) (c : Chosen) → sectorRefusal i l ≡ 0 → Choice i c → ServesSector i l (afterOf i l c) (Done (countsOf i (c .pairing)))
 sector-call-may-answer-so i l c e h = record {
+  counts = countsOf i (c .pairing);
+  answered = sym (done-by (countsOf i (c .pairing)) e);
   refused = λ d. absurd (d e);
-  served = λ z. record { counts = countsOf i (c .pairing); done = refl; rest = record { chosen = c; choice = h; counted = refl; left = refl } };
+  served = λ z. record { chosen = c; choice = h; counted = refl; left = refl };
 }
 
 module _ (i : Input) (sheet p u v : List ℕ) (n m : ℕ) (e : sheetedOf i sheet ≡ sheet-call.Sheet n m) (room : RoomToPair i p u v) where
@@ -186,7 +189,7 @@ module _ (i : Input) (sheet p u v : List ℕ) (n m : ℕ) (e : sheetedOf i sheet
 -- ---- refusals
 
 -- a number of 1 to 8 is given whatever the room
-pub by-fault : (i : Input) (room : Bool) (k : ℕ) → k < 9 → (k ≡ 0 → ⊥) → refusalOf i room ≡ k → faultOf i ≡ k
+pub by-fault : (i : Input) (room : Bool) (k : ℕ) → k < noRoom → (k ≡ 0 → ⊥) → refusalOf i room ≡ k → faultOf i ≡ k
 by-fault i room k h n e =
     ⊎-elim
     (λ z. absurd (go room (sym (refused-by-room i room z) ∙ e)))
@@ -203,7 +206,7 @@ sheet-refused-by zero k i = ((λ e. let z : _≡_ {A = ℕ} 0 1 = cc in absurd (
 sheet-refused-by (suc j) k i = ((λ e. (cc, λ z. let q : suc j ≡ k = cc in omega arith)), λ e n. ap sheet-call.Refused e)
 
 -- A sector call and a sheet call that are handed the same are refused by the same numbers of 1 to 8.
-pub refused-alike : (i : Input) (l l′ : Lent) (answer : Served) (sheet : List ℕ) → ServesSector i l l′ answer → (k : ℕ) → k < 9 → RefusedAlike answer (sheetedOf i sheet) k
+pub refused-alike : (i : Input) (l l′ : Lent) (answer : Served) (sheet : List ℕ) → ServesSector i l l′ answer → (k : ℕ) → k < noRoom → RefusedAlike answer (sheetedOf i sheet) k
 unfolding sectorRefusal sheetedOf
 refused-alike i l l′ answer sheet R k h = record {
   by-sheet = λ e.

@@ -1,5 +1,5 @@
 -- What a sector call answers, and what it leaves in all that was lent (01, 'After pairing' and 'Numbers a sector call gives back').
-use Prim.Native.Nat.{ℕ}
+use Prim.Native.Nat.{ℕ, zero, suc}
 use mathlib.Core.Path.{_≡_}
 use mathlib.Core.Bool.{Bool, not}
 use mathlib.Core.List.{List, [], _∷_, _++_}
@@ -37,9 +37,9 @@ abbrev pub handedIn : Lent → Site → List (List ℕ) → Input
 handedIn l site batch = input (l .table) (l .sector) site batch
 
 -- room for a fate, slot, shown mark and discount per report and a price per slot
-unfoldable pub rooms : (reports slots : ℕ) (fates owners shown discounts prices : ℕ) → List Bool
-rooms reports slots fates owners shown discounts prices =
-    leb reports fates ∷ leb reports owners ∷ leb reports shown ∷ leb reports discounts ∷ leb slots prices ∷ []
+unfoldable pub rooms : (reports table : ℕ) (fates slots shown discounts prices : ℕ) → List Bool
+rooms reports table fates slots shown discounts prices =
+    leb reports fates ∷ leb reports slots ∷ leb reports shown ∷ leb reports discounts ∷ leb table prices ∷ []
 
 -- none of them fails
 unfoldable pub allPass : List Bool → Bool
@@ -112,14 +112,16 @@ pub record ServedWith (i : Input) (l l′ : Lent) (counts : Counts) : Type 0 whe
   pub counted : counts ≡ countsOf i (chosen .pairing)
   pub left : l′ ≡ afterOf i l chosen
 
--- the answer of a call that is served
-pub record ServedAs (i : Input) (l l′ : Lent) (answer : Served) : Type 0 where
-  pub counts : Counts
-  pub done : answer ≡ Done counts
-  pub rest : ServedWith i l l′ counts
+-- the answer of a call: the number of its refusal, or its counts where it is served (01, 'Numbers a sector call gives back')
+unfoldable pub servedBy : ℕ → Counts → Served
+servedBy zero counts = Done counts
+servedBy (suc k) counts = Refused (suc k)
 
 -- ---- the whole promise: l before the call, l′ after it
 
+-- a refused call's counts are free: its answer does not show them
 pub record ServesSector (i : Input) (l l′ : Lent) (answer : Served) : Type 0 where
-  pub refused : (sectorRefusal i l ≡ 0 → ⊥) → (answer ≡ Refused (sectorRefusal i l)) × (l′ ≡ l)
-  pub served : sectorRefusal i l ≡ 0 → ServedAs i l l′ answer
+  pub counts : Counts
+  pub answered : answer ≡ servedBy (sectorRefusal i l) counts
+  pub refused : (sectorRefusal i l ≡ 0 → ⊥) → l′ ≡ l
+  pub served : sectorRefusal i l ≡ 0 → ServedWith i l l′ counts

@@ -32,9 +32,9 @@ pub record PairedOff (i : Input) (due sheet pairing prices discounts discounts�
   pub beyond : drop (reportsOf i) discounts′ ≡ drop (reportsOf i) discounts
 
 -- room in the answer's lists
-pub record Room (slots reports : ℕ) (fates owners shown discounts prices : ℕ) : Type 0 where
+pub record Room (table reports : ℕ) (fates slots shown discounts prices : ℕ) : Type 0 where
   pub for-fates : reports ≤ fates
-  pub for-slots : reports ≤ owners
+  pub for-slots : reports ≤ slots
   pub for-shown : reports ≤ shown
   pub for-discounts : reports ≤ discounts
-  pub for-prices : slots ≤ prices
+  pub for-prices : table ≤ prices

@@ -253,21 +253,21 @@ fn serve(
 // Whether the answer's lists have room for a fate, slot, shown mark and discount per report and a price per slot.
 fn has_room(
     reports: usize,
-    slots: usize,
+    table: usize,
     fates: usize,
-    owners: usize,
+    slots: usize,
     shown: usize,
     discounts: usize,
     prices: usize,
 ) -> bool
-    ensures { λ r. ⌜ r ≡ allPass (rooms reports slots fates owners shown discounts prices) ⌝ }
+    ensures { λ r. ⌜ r ≡ allPass (rooms reports table fates slots shown discounts prices) ⌝ }
 {
     let rooms = [
         reports <= fates,
-        reports <= owners,
+        reports <= slots,
         reports <= shown,
         reports <= discounts,
-        slots <= prices,
+        table <= prices,
     ];
     rooms.len() <= records::first_broken(&rooms)
 }

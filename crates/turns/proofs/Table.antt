@@ -1,12 +1,11 @@
 -- What a served call leaves is fit for the next call.
 use Prim.Native.Nat.{ℕ, suc, _<_}
-use mathlib.Core.Path.{_≡_, refl, sym, _∙_}
-use mathlib.Core.Bool.{Bool, true, false}
+use mathlib.Core.Path.{_≡_, sym, _∙_}
+use mathlib.Core.Bool.{Bool, true}
 use mathlib.Core.List.{List, [], _∷_}
 use native.Mathlib.Nat.{le-of-eq}
 use native.Mathlib.Omega.{arith}
-use borrow.Author.Tests.{eqb-true, eqb-false, le-leb, lt-ltb}
-use lib.Dec.{eqb}
+use borrow.Author.Tests.{le-leb, lt-ltb}
 use lib.ListN.{length, getD}
 use Rattle.laws.proofs.Search.{first-nowhere}
 use Rattle.laws.proofs.Tests.{and-both, clash}
@@ -18,7 +17,7 @@ use Rattle.records.specs.Fields.{trackFields}
 use Rattle.records.specs.Bytes.{badSlotField}
 use Rattle.records.proofs.Checked.{sound}
 use Rattle.matching.proofs.Theorems.{zero-certificate}
-use Rattle.intake.specs.Refusals.{Input, mostSlots, slotBad, noneOf, demands, refusalOf, Ready}
+use Rattle.intake.specs.Refusals.{Input, mostSlots, slotBad, noneOf, demands, noRoom, refusalOf, Ready}
 use Rattle.intake.proofs.Readiness.{ready, fault-means, not-refused}
 use Rattle.scoresheet.specs.Cells.{cellsOf, tracksOf, reportsOf}
 use Rattle.walk.specs.Table.{settledTable}
@@ -28,6 +27,7 @@ use Rattle.fates.proofs.Starts.{AllGood, GoodReports, started-length, started-g
 use Rattle.sector.specs.declared.Served.{Served}
 use Rattle.sector.specs.declared.Served.the-variants.{Refused}
 use Rattle.sector.specs.Serve.{ServedWith, ServesSector, Lent, handedIn, roomFor, sectorRefusal, Chosen, Choice, reportsIn, afterOf}
+use Rattle.promises.proofs.Calls.{refused-exactly-when}
 use Rattle.promises.proofs.Together.{by-fault}
 use Rattle.turns.specs.Calls.{Accepted, HandsOn, LeftGood, OfTable, is-1, is-2, is-4}
 
@@ -64,8 +64,8 @@ handed-on-good i l c r q = record {
 -- ---- an accepted call
 
 -- what was promised of it: its choice, and what it left
-abbrev pub outcome : {l l′ : Lent} (a : Accepted l l′) → ServedWith (handedIn l (a .site) (a .batch)) l l′ (a .promise .served (a .not-refused) .counts)
-outcome a = a .promise .served (a .not-refused) .rest
+abbrev pub outcome : {l l′ : Lent} (a : Accepted l l′) → ServedWith (handedIn l (a .site) (a .batch)) l l′ (a .promise .counts)
+outcome a = a .promise .served (a .not-refused)
 
 -- and it was ready
 pub was-ready : {l l′ : Lent} (a : Accepted l l′) → Ready (handedIn l (a .site) (a .batch))
@@ -81,7 +81,7 @@ accepted-leaves-good {l} {l′} a =
 
 -- a demand that holds is not the one that a call is refused by
 module _ (i : Input) (room : Bool) where
-  not-by : (k : ℕ) → suc k < 9 → getD (demands i) k true ≡ true → refusalOf i room ≡ suc k → ⊥
+  not-by : (k : ℕ) → suc k < noRoom → getD (demands i) k true ≡ true → refusalOf i room ≡ suc k → ⊥
   not-by k h e q = clash e (fault-means i k (by-fault i room (suc k) h (λ z. omega arith) q) .0)
 
 -- the table has slots, and not too many, and none of them is malformed for the sector
@@ -111,13 +111,5 @@ module _ {l l′ next : Lent} (a : Accepted l l′) (o : HandsOn l′ next) (sit
 
   -- So it never answers 1, 2 or 4.
   pub never-answered-1-2-4 : {number : ℕ} {last : Lent} {answer : Served} → OfTable number → ServesSector (handedIn next site batch) next last answer → answer ≡ Refused number → ⊥
-  never-answered-1-2-4 {number} {last} {answer} n w e = go (eqb (sectorRefusal (handedIn next site batch) next) 0) refl
-    where
-      go : (b : Bool) → eqb (sectorRefusal (handedIn next site batch) next) 0 ≡ b → ⊥
-      go true z =
-          let d = w .served (eqb-true _ 0 z) .done in
-          let no : _≡_ {A = ℕ} 0 1 = cc in
-          omega arith
-      go false z =
-          let d = w .refused (eqb-false _ 0 z) .0 in
-          never-refused-1-2-4 n (cc)
+  never-answered-1-2-4 {number} {last} {answer} n w e =
+      never-refused-1-2-4 n (refused-exactly-when (handedIn next site batch) next last answer w number .only e .0)

@@ -33,7 +33,7 @@ module _ {l l′ : Lent} (a : Accepted l l′) where
   i = handedIn l (a .site) (a .batch)
 
   abbrev counts : Counts
-  counts = a .promise .served (a .not-refused) .counts
+  counts = a .promise .counts
 
   abbrev P : List ℕ
   P = outcome a .chosen .pairing
