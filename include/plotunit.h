@@ -118,7 +118,8 @@ uint8_t plot_score_sheet(
     uint32_t *sheet, size_t sheet_len,             /* each a score under 2,097,152, or PLOT_NONE */
     uint32_t *size);                               /* 2 numbers: tracks, reports */
 
-/* A best pairing of any sheet: a report number or PLOT_NONE and a price a track, a discount a report. */
+/* A best pairing of any sheet: a report number or PLOT_NONE and a price a track, a discount a report. Where several are best,
+ * which one is taken is not promised, nor that a sector call takes the same. */
 uint8_t plot_pair_sheet(
     size_t tracks, size_t reports,
     const uint32_t *sheet, size_t sheet_len,

@@ -1,5 +1,4 @@
 -- What the engine ends with is a certificate: each track's price is its score and its report's discount, and only paired reports have one.
---
 use Prim.Native.Nat.{ℕ, zero, suc, _+_, _*_, _≤_, _<_}
 use mathlib.Core.Path.{_≡_, refl, ap, sym, _∙_}
 use mathlib.Core.List.{List}

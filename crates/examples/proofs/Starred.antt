@@ -11,8 +11,7 @@ use Rattle.numbers.specs.Sectors.{callsAhead}
 use Rattle.records.specs.Fields.{sureConfidence, sureQuality, isWeak}
 use Rattle.scoring.specs.Zone.{rangeOff, azimuthOff, withinSigmas, withinOuter, zoneOf}
 use Rattle.scoring.specs.Position.{reaches, largest, positionOf}
-use Rattle.scoring.specs.Score.{pairPosition, dopplerNear, dopplerAgrees, dopplerOf, updatesAge, ageOf, confidenceTrust, qualityTrust, trustOf}
-use Rattle.scoring.specs.Score.{worthOf, scoreOf}
+use Rattle.scoring.specs.Score.{pairPosition, dopplerNear, dopplerAgrees, dopplerOf, updatesAge, ageOf, confidenceTrust, qualityTrust, trustOf, worthOf, scoreOf}
 use Rattle.settling.specs.Settle.{speedCorrection}
 use Rattle.laws.specs.Lists.{at}
 use Rattle.matching.specs.Pairing.{total, Best, sheetOf}

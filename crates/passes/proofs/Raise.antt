@@ -8,8 +8,7 @@ use lib.ListN.{length, set, length-set}
 use lib.Seq.{getD-set-same, getD-set-other}
 use Rattle.laws.specs.Lists.{at}
 use Rattle.passes.specs.Cells.{Paid, Lifted}
-use Rattle.laws.proofs.Stores.{same-or}
-use Rattle.laws.proofs.Stores.{le-or-lt}
+use Rattle.laws.proofs.Stores.{same-or, le-or-lt}
 
 pub lifted-set : (prices : List ℕ) (o x y : ℕ) → y ≡ o → (x ≡ 0) ⊎ ((o < length prices) × (at prices o + x < 2 ^ 32)) → 0 < x → Lifted prices o x (set prices y (at prices y + x))
 lifted-set prices o x y e p h = rw e (record {

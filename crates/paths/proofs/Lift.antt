@@ -10,8 +10,7 @@ use Rattle.laws.specs.Lists.{at}
 use Rattle.matching.specs.Pairing.{none, leftOut}
 use Rattle.passes.specs.Cells.{Paid, far, PricesUp, DiscountsUp}
 use Rattle.paths.specs.State.{cell, Shape, Prices, Own, Match, Closed, Link, Tight, Searchable, Ended, Finishable, Settled, Done, Inserted, Reached}
-use Rattle.laws.proofs.Stores.{le-or-lt}
-use Rattle.laws.proofs.Stores.{same-or}
+use Rattle.laws.proofs.Stores.{le-or-lt, same-or}
 
 module _ {cells : List ℕ} {m track : ℕ} {pairing owner prices discounts d0 p0 s0 : List ℕ} (R : Searchable cells m track pairing owner prices discounts d0 p0 s0)
     {D report leaver : ℕ} {labels via closings : List ℕ} (E : Ended cells m (length prices) pairing owner prices discounts track D report leaver labels via closings)

@@ -10,8 +10,7 @@ use Rattle.records.specs.declared.Site.{Site}
 use Rattle.records.specs.Fields.{growingFrom, matureFrom, sureConfidence, sureQuality}
 use Rattle.scoring.specs.declared.Scored.the-variants.{NotAdmissible, Score}
 use Rattle.scoring.specs.Zone.{rangeOff, azimuthOff, withinSigmas, innerSigmas, withinOuter, zoneOf}
-use Rattle.scoring.specs.Score.{pairPosition, oneUnless, dopplerAgrees, dopplerOf, updatesAge, ageOf, confidenceTrust, qualityTrust, trustOf}
-use Rattle.scoring.specs.Score.{worthOf, scoreOf}
+use Rattle.scoring.specs.Score.{pairPosition, oneUnless, dopplerAgrees, dopplerOf, updatesAge, ageOf, confidenceTrust, qualityTrust, trustOf, worthOf, scoreOf}
 use Rattle.scoring.proofs.PositionLaws.{position-most}
 
 -- a pair in the inner zone is inner, even where a track of one update does not reach so far

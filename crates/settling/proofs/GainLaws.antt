@@ -9,11 +9,10 @@ use lib.Dec.{leb, eqb}
 use lib.ListN.{getD}
 use Rattle.laws.specs.Tests.{each}
 use Rattle.laws.proofs.Tests.{each-at}
-use Rattle.records.specs.Fields.{confidenceMost, qualityMost, Sound}
+use Rattle.records.specs.Fields.{confidenceMost, qualityMost, Sound, updatesAtStart}
 use Rattle.records.specs.declared.Track.{Track}
 use Rattle.records.specs.declared.Report.{Report}
 use Rattle.settling.specs.Gains.{tenths, degradedA, degradedB, rowA, rowB, listedAt, gain, gainA, gainB}
-use Rattle.records.specs.Fields.{updatesAtStart}
 
 abbrev pub qualities : ℕ
 qualities = qualityMost + 1

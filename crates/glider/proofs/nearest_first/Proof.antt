@@ -1,17 +1,14 @@
-use Rattle.glider.specs.Nearest.{nearestOf}
-use lib.ListN.{set, length-set}
-use mathlib.Core.Bool.{true}
+use Rattle.glider.specs.Nearest.{nearestOf, nearestFor, takenAfter, nearestFirst}
+use lib.ListN.{set, length-set, length}
+use mathlib.Core.Bool.{true, Bool}
 use mathlib.Core.Path.{_≡_, refl, ap, _∙_}
 use borrow.Author.Needs.{needs}
 use Prim.Native.Nat.{ℕ, _-_, _≤_, _<_}
 use native.Mathlib.Omega.{arith}
-use mathlib.Core.Bool.{Bool}
 use mathlib.Core.List.{List, append-nil}
-use lib.ListN.{length}
 use lib.Seq.{drop-length}
 use Rattle.laws.proofs.Fold.{Answered, answered-none}
 use Rattle.laws.proofs.Rounds.{numbers, told-more, told-end}
-use Rattle.glider.specs.Nearest.{nearestFor, takenAfter, nearestFirst}
 use Rattle.glider.proofs.Filter.{part-is-row, row-room}
 use Rattle.glider.proofs.nearest_first.Statement.{statement}
 use Rattle.glider.proofs.nearest_first.Tie as tie
@@ -72,9 +69,10 @@ loop-less c = search needs
 loop-again : tie.Need-loop-again Inv-loop μ-loop
 unfolding takenAfter nearestFor
 loop-again c =
-    let i = c .before .before .before .before .before .before .before .before .loop .inv in
-    let taken = c .before .before .before .before .before .before .before .before .loop .taken in
-    let track = c .before .before .before .before .before .before .before .before .loop .track in
+    let l = c .before .before .before .before .before .before .before .before .loop in
+    let i = l .inv in
+    let taken = l .taken in
+    let track = l .track in
     let start = c .before .before .before .before .before .before .before .before .before .before .before .before .args in
     let e = c .before .before .before .before .nearest-free .ensures ∙ ap (λ (r : List ℕ). nearestOf r taken) (part-is-row (start .reports) track (start .sheet .now)) in
     let t = c .before .before .take-report .ensures in

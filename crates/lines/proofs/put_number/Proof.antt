@@ -14,13 +14,17 @@ slice-aggregate-put-text : tie.Need-slice-aggregate-put-text
 slice-aggregate-put-text c = search needs
 
 put-text-requires : tie.Need-put-text-requires
-put-text-requires c κs = rw (c .before .before .decimal .ensures .1 .1, spelled (c .before .before .before .before .before .args .n) (c .before .before .decimal .result) (omega arith) (c .before .before .decimal .ensures .1 .0)) (omega (arith, numeral-short (c .before .before .before .before .before .args .n)))
+put-text-requires c κs =
+    let given = c .before .before .before .before .before .args in
+    rw (c .before .before .decimal .ensures .1 .1, spelled (given .n) (c .before .before .decimal .result) (omega arith) (c .before .before .decimal .ensures .1 .0)) (omega (arith, numeral-short (given .n)))
 
 same-length : tie.Need-same-length
 same-length c = search needs
 
 returns : tie.Need-returns
-returns c = rw (c .before .before .before .before .before .decimal .ensures .1 .1, spelled (c .before .before .before .before .before .before .before .before .args .n) (c .before .before .before .before .before .decimal .result) (omega arith) (c .before .before .before .before .before .decimal .ensures .1 .0)) at (c .before .before .put-text .ensures)
+returns c =
+    let decimal = c .before .before .before .before .before .decimal in
+    rw (decimal .ensures .1 .1, spelled (c .before .before .before .before .before .before .before .before .args .n) (decimal .result) (omega arith) (decimal .ensures .1 .0)) at (c .before .before .put-text .ensures)
 
 pub put-number-spec : {M : Type 1} → statement M
 put-number-spec =

@@ -1,6 +1,5 @@
-use mathlib.Core.Path.{refl}
+use mathlib.Core.Path.{refl, _≡_}
 use Prim.Native.Nat.{ℕ, _≤_, _<_, _-_}
-use mathlib.Core.Path.{_≡_}
 use lib.ListN.{length, length-set}
 use Rattle.laws.specs.Lists.{at}
 use Rattle.laws.proofs.Stores.{upd}

@@ -1,11 +1,9 @@
 use Rattle.laws.proofs.Stores.{le-or-lt}
-use borrow.Author.Count.{below-none}
-use mathlib.Core.Path.{refl}
+use borrow.Author.Count.{below-none, below-more}
+use mathlib.Core.Path.{refl, _≡_}
 use mathlib.Core.Logic.{_⊎_, inl, inr, ⊎-elim}
 use Prim.Native.Nat.{ℕ, _+_, _≤_, _<_, _-_, _^_}
-use mathlib.Core.Path.{_≡_}
 use lib.ListN.{length}
-use borrow.Author.Count.{below-more}
 use Rattle.laws.specs.Lists.{at}
 use borrow.Author.Needs.{needs}
 use native.Mathlib.Omega.{arith}

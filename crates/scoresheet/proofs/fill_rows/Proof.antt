@@ -1,15 +1,12 @@
 use Rattle.records.specs.Fields.{WellFormed}
-use Rattle.scoresheet.specs.Cells.{rowOf}
-use Rattle.scoresheet.proofs.Rows.{part-length}
-use Rattle.scoresheet.proofs.Rows.{next-row, row-ready}
+use Rattle.scoresheet.specs.Cells.{rowOf, cellsOf}
+use Rattle.scoresheet.proofs.Rows.{part-length, next-row, row-ready, RowsFilled, rows-none, rows-more, rows-end}
 use Prim.Native.Nat.{_-_}
 use mathlib.Core.Path.{_∙_}
 use native.Mathlib.Omega.{arith}
 use borrow.Author.Needs.{needs}
 use lib.ListN.{length}
 use Rattle.intake.specs.Refusals.{input}
-use Rattle.scoresheet.specs.Cells.{cellsOf}
-use Rattle.scoresheet.proofs.Rows.{RowsFilled, rows-none, rows-more, rows-end}
 use Rattle.scoresheet.proofs.fill_rows.Statement.{statement}
 use Rattle.scoresheet.proofs.fill_rows.Tie as tie
 

@@ -4,7 +4,9 @@ use Rattle.sector.proofs.pair_up.Statement.{statement}
 use Rattle.sector.proofs.pair_up.Tie as tie
 
 fill-rows-requires : tie.Need-fill-rows-requires
-fill-rows-requires c κs = (c .before .before .before .before .before .before .pre .0, rows-room _ _ _ _ _ _ (c .before .before .before .before .before .before .pre .0) (c .before .before .before .before .before .before .pre .1))
+fill-rows-requires c κs =
+    let p = c .before .before .before .before .before .before .pre in
+    (p .0, rows-room _ _ _ _ _ _ (p .0) (p .1))
 
 pair-sheet-requires : tie.Need-pair-sheet-requires
 pair-sheet-requires c κs = search needs
@@ -22,7 +24,10 @@ same-length-4 : tie.Need-same-length-4
 same-length-4 c = search needs
 
 returns : tie.Need-returns
-returns c = paired-off _ _ _ _ _ _ (c .before .before .before .before .before .before .before .before .before .before .before .before .before .before .before .before .before .before .before .before .pre .0) (c .before .before .before .before .before .before .before .before .before .before .before .before .before .before .before .before .before .before .before .before .pre .1) _ _ _ _ _ (c .before .before .before .before .before .before .before .before .before .before .before .before .before .fill-rows .ensures) (c .before .before .before .before .before .before .pair-sheet .kept .1 .1 .1 .0) (c .before .before .before .before .before .before .pair-sheet .kept .1 .1 .1 .1 .0) (c .before .before .before .before .before .before .pair-sheet .ensures)
+returns c =
+    let p = c .before .before .before .before .before .before .before .before .before .before .before .before .before .before .before .before .before .before .before .before .pre in
+    let pair-sheet = c .before .before .before .before .before .before .pair-sheet in
+    paired-off _ _ _ _ _ _ (p .0) (p .1) _ _ _ _ _ (c .before .before .before .before .before .before .before .before .before .before .before .before .before .fill-rows .ensures) (pair-sheet .kept .1 .1 .1 .0) (pair-sheet .kept .1 .1 .1 .1 .0) (pair-sheet .ensures)
 
 pub pair-up-spec : {M : Type 1} → statement M
 pair-up-spec =

@@ -8,7 +8,9 @@ pair-up-requires : tie.Need-pair-up-requires
 pair-up-requires c κs = search needs
 
 settle-requires : tie.Need-settle-requires
-settle-requires c κs = (c .before .before .before .before .before .before .before .before .before .before .before .before .before .before .before .before .before .before .before .before .before .before .before .before .before .before .before .before .before .before .before .pre .0, (c .before .before .before .before .before .before .before .before .before .before .before .before .before .before .before .before .pair-up .ensures .up, record { for-fates = c .before .before .before .before .before .before .before .before .before .before .before .before .before .before .before .before .before .before .before .before .before .before .before .before .before .before .before .before .before .before .before .pre .1 .1 .for-fates; for-slots = c .before .before .before .before .before .before .before .before .before .before .before .before .before .before .before .before .before .before .before .before .before .before .before .before .before .before .before .before .before .before .before .pre .1 .1 .for-slots; for-shown = c .before .before .before .before .before .before .before .before .before .before .before .before .before .before .before .before .before .before .before .before .before .before .before .before .before .before .before .before .before .before .before .pre .1 .1 .for-shown; for-discounts = le-refl _; for-prices = c .before .before .before .before .before .before .before .before .before .before .before .before .before .before .before .before .before .before .before .before .before .before .before .before .before .before .before .before .before .before .before .pre .1 .1 .for-prices }))
+settle-requires c κs =
+    let p = c .before .before .before .before .before .before .before .before .before .before .before .before .before .before .before .before .before .before .before .before .before .before .before .before .before .before .before .before .before .before .before .pre in
+    (p .0, (c .before .before .before .before .before .before .before .before .before .before .before .before .before .before .before .before .pair-up .ensures .up, record { for-fates = p .1 .1 .for-fates; for-slots = p .1 .1 .for-slots; for-shown = p .1 .1 .for-shown; for-discounts = le-refl _; for-prices = p .1 .1 .for-prices }))
 
 same-length : tie.Need-same-length
 same-length c = search needs

@@ -1,6 +1,5 @@
 use borrow.Author.Tests.{ne-eqb}
 use Rattle.settling.specs.Gains.{gain}
-use borrow.Author.Tests.{ne-eqb}
 use Rattle.settling.proofs.gain.Statement.{statement}
 use Rattle.settling.proofs.gain.Tie as tie
 
