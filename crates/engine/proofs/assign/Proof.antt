@@ -19,9 +19,7 @@ match-all-requires : tie.Need-match-all-requires Inv-loop μ-loop
 match-all-requires c κs = c .before .before .before .before .before .before .before .before .before .before .before .before .before .before .before .before .before .pre
 
 loop-holds : tie.Need-loop-holds Inv-loop μ-loop
-loop-holds c =
-    let p = c .before .before .before .before .before .before .before .before .before .before .before .before .before .before .before .before .before .before .before .before .before .before .before .before .before .before .before .before .before .before .before .before .before .before .pre in
-    (good-len _ _ _ _ _ _ _ (c .before .before .before .before .before .before .before .before .before .before .before .before .before .before .before .before .match-all .ensures), (search needs, (below-none _, (omega (arith, c .before .before .before .before .before .before .before .labels .given, p .rooms .labels-long), (omega (arith, c .before .before .before .before .before .via .given, p .rooms .via-long), omega (arith, c .before .before .before .closings .given, p .rooms .closings-long))))))
+loop-holds c = (good-len _ _ _ _ _ _ _ (c .before .before .before .before .before .before .before .before .before .before .before .before .before .before .before .before .match-all .ensures), (search needs, (below-none _, (omega (arith, c .before .before .before .before .before .before .before .labels .given, c .before .before .before .before .before .before .before .before .before .before .before .before .before .before .before .before .before .before .before .before .before .before .before .before .before .before .before .before .before .before .before .before .before .before .pre .rooms .labels-long), (omega (arith, c .before .before .before .before .before .via .given, c .before .before .before .before .before .before .before .before .before .before .before .before .before .before .before .before .before .before .before .before .before .before .before .before .before .before .before .before .before .before .before .before .before .before .pre .rooms .via-long), omega (arith, c .before .before .before .closings .given, c .before .before .before .before .before .before .before .before .before .before .before .before .before .before .before .before .before .before .before .before .before .before .before .before .before .before .before .before .before .before .before .before .before .before .pre .rooms .closings-long))))))
 
 cast-visit : tie.Need-cast-visit Inv-loop μ-loop
 cast-visit c =
@@ -30,9 +28,8 @@ cast-visit c =
 
 visit-requires : tie.Need-visit-requires Inv-loop μ-loop
 visit-requires c κs =
-    let l = c .before .before .before .before .before .before .before .before .loop in
-    let G = l .inv .0 in
-    let v = l .inv .1 .1 .1 in
+    let G = c .before .before .before .before .before .before .before .before .loop .inv .0 in
+    let v = c .before .before .before .before .before .before .before .before .loop .inv .1 .1 .1 in
     record { good = good-len _ _ _ _ _ _ _ G; track-in = c .before .before .before .before .before .before .before .loop-test .taken; rooms = record { labels-long = v .0; via-long = v .1 .0; closings-long = v .1 .1 } }
 
 add-track : tie.Need-add-track Inv-loop μ-loop
@@ -43,13 +40,12 @@ loop-less c = search needs
 
 loop-again : tie.Need-loop-again Inv-loop μ-loop
 loop-again c =
-    let l = c .before .before .before .before .before .before .before .before .before .before .before .before .before .before .before .before .before .before .before .before .before .before .before .loop in
-    let G = l .inv .0 in
+    let G = c .before .before .before .before .before .before .before .before .before .before .before .before .before .before .before .before .before .before .before .before .before .before .before .loop .inv .0 in
     let I = c .before .before .before .before .before .before .before .before .before .before .before .before .before .before .visit .ensures in (
       good-at _ _ _ _ _ _ _ _ (G .shape .prices-long) (I .good),
       (
         omega (arith, G .shape .prices-long),
-        (below-more _ _ (λ i h. I .done i (omega arith) (l .inv .1 .1 .0 i h)) (I .track-done), (search needs, (search needs, search needs))),
+        (below-more _ _ (λ i h. I .done i (omega arith) (c .before .before .before .before .before .before .before .before .before .before .before .before .before .before .before .before .before .before .before .before .before .before .before .loop .inv .1 .1 .0 i h)) (I .track-done), (search needs, (search needs, search needs))),
       ),
     )
 

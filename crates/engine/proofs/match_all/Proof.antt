@@ -14,9 +14,7 @@ claim-all-requires c κs =
     (good-len _ _ _ _ _ _ _ (K .0), ((λ i h. K .1 .0 i (omega (arith, K .0 .shape .prices-long))), K .1 .1))
 
 take-turns-requires : tie.Need-take-turns-requires
-take-turns-requires c κs =
-    let p = c .before .before .before .before .before .before .before .before .before .before .before .before .before .before .before .before .before .before .before .before .before .before .before .before .before .before .before .before .before .before .before .before .before .before .before .before .before .before .before .before .before .pre in
-    (good-len _ _ _ _ _ _ _ (c .before .before .before .before .before .before .before .before .before .before .before .before .before .before .claim-all .ensures), (p .rooms, p .slack-long))
+take-turns-requires c κs = (good-len _ _ _ _ _ _ _ (c .before .before .before .before .before .before .before .before .before .before .before .before .before .before .claim-all .ensures), (c .before .before .before .before .before .before .before .before .before .before .before .before .before .before .before .before .before .before .before .before .before .before .before .before .before .before .before .before .before .before .before .before .before .before .before .before .before .before .before .before .before .pre .rooms, c .before .before .before .before .before .before .before .before .before .before .before .before .before .before .before .before .before .before .before .before .before .before .before .before .before .before .before .before .before .before .before .before .before .before .before .before .before .before .before .before .before .pre .slack-long))
 
 same-length : tie.Need-same-length
 same-length c = omega (arith, c .before .before .before .before .before .before .before .before .before .before .before .before .before .before .before .before .before .before .before .before .before .before .before .before .before .before .before .before .before .before .before .before .before .before .before .before .before .before .before .before .before .before .before .pairing .given, c .before .before .before .before .before .before .before .before .before .before .before .before .before .before .before .before .before .before .before .before .before .before .before .before .before .before .before .before .before .before .pairing2 .given, c .before .before .before .before .before .before .before .before .before .before .before .before .before .before .before .pairing3 .given)

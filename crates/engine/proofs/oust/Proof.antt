@@ -48,9 +48,7 @@ mul-pairing-2 : tie.Need-mul-pairing-2
 mul-pairing-2 c = search needs
 
 slice-write-pairing-2 : tie.Need-slice-write-pairing-2
-slice-write-pairing-2 c =
-    let p = c .before .before .before .before .before .before .before .before .before .before .before .before .before .pre in
-    simp length-set (omega (arith, c .before .before .before .before .before .before .before .idx .ensures, p .track-in, p .good .shape .pairing-long))
+slice-write-pairing-2 c = simp length-set (omega (arith, c .before .before .before .before .before .before .before .idx .ensures, c .before .before .before .before .before .before .before .before .before .before .before .before .before .pre .track-in, c .before .before .before .before .before .before .before .before .before .before .before .before .before .pre .good .shape .pairing-long))
 
 mul-owner : tie.Need-mul-owner
 mul-owner c = search needs

@@ -24,21 +24,13 @@ unfolding startedOf
 pack-requires c κs = rw (c .started .ensures) (omega arith)
 
 mul-t8 : tie.Need-mul-t8
-mul-t8 c =
-    let p = c .before .before .before .before .before .pre in
-    let given = c .before .before .before .before .before .args in
-    omega (arith, p .0, tracked (given .p) (given .sector) (given .table .now) (c .before .before .before .before .is-weak .ensures) (p .2) (c .before .before .before .first-fate .ensures) (c .before .before .if1 .left) .room)
+mul-t8 c = omega (arith, c .before .before .before .before .before .pre .0, tracked (c .before .before .before .before .before .args .p) (c .before .before .before .before .before .args .sector) (c .before .before .before .before .before .args .table .now) (c .before .before .before .before .is-weak .ensures) (c .before .before .before .before .before .pre .2) (c .before .before .before .first-fate .ensures) (c .before .before .if1 .left) .room)
 
 slice-set-from-table : tie.Need-slice-set-from-table
-slice-set-from-table c =
-    let given = c .before .before .before .before .before .args in
-    tracked (given .p) (given .sector) _ (c .before .before .before .before .is-weak .ensures) (c .before .before .before .before .before .pre .2) (c .before .before .before .first-fate .ensures) (c .before .before .if1 .left) .room
+slice-set-from-table c = tracked (c .before .before .before .before .before .args .p) (c .before .before .before .before .before .args .sector) _ (c .before .before .before .before .is-weak .ensures) (c .before .before .before .before .before .pre .2) (c .before .before .before .first-fate .ensures) (c .before .before .if1 .left) .room
 
 cast-t13 : tie.Need-cast-t13
-cast-t13 c =
-    let p = c .before .before .before .before .before .pre in
-    let given = c .before .before .before .before .before .args in
-    omega (arith, p .0, tracked (given .p) (given .sector) (given .table .now) (c .before .before .before .before .is-weak .ensures) (p .2) (c .before .before .before .first-fate .ensures) (c .before .before .if1 .left) .room)
+cast-t13 c = omega (arith, c .before .before .before .before .before .pre .0, tracked (c .before .before .before .before .before .args .p) (c .before .before .before .before .before .args .sector) (c .before .before .before .before .before .args .table .now) (c .before .before .before .before .is-weak .ensures) (c .before .before .before .before .before .pre .2) (c .before .before .before .first-fate .ensures) (c .before .before .if1 .left) .room)
 
 same-length : tie.Need-same-length
 same-length c = search needs

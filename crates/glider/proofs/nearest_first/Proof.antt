@@ -69,10 +69,9 @@ loop-less c = search needs
 loop-again : tie.Need-loop-again Inv-loop μ-loop
 unfolding takenAfter nearestFor
 loop-again c =
-    let l = c .before .before .before .before .before .before .before .before .loop in
-    let i = l .inv in
-    let taken = l .taken in
-    let track = l .track in
+    let i = c .before .before .before .before .before .before .before .before .loop .inv in
+    let taken = c .before .before .before .before .before .before .before .before .loop .taken in
+    let track = c .before .before .before .before .before .before .before .before .loop .track in
     let start = c .before .before .before .before .before .before .before .before .before .before .before .before .args in
     let e = c .before .before .before .before .nearest-free .ensures ∙ ap (λ (r : List ℕ). nearestOf r taken) (part-is-row (start .reports) track (start .sheet .now)) in
     let t = c .before .before .take-report .ensures in

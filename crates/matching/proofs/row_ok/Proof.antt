@@ -47,9 +47,7 @@ loop-less : tie.Need-loop-less Inv-loop μ-loop
 loop-less c = search needs
 
 loop-again : tie.Need-loop-again Inv-loop μ-loop
-loop-again c =
-    let l = c .before .before .before .before .before .loop in
-    (search needs, each-more _ (l .j) (l .inv .1) (sym (c .before .pair-ok .ensures) ∙ not-false _ (c .if1 .left)))
+loop-again c = (search needs, each-more _ (c .before .before .before .before .before .loop .j) (c .before .before .before .before .before .loop .inv .1) (sym (c .before .pair-ok .ensures) ∙ not-false _ (c .if1 .left)))
 
 returns-2 : tie.Need-returns-2 Inv-loop μ-loop
 returns-2 c = sym (each-done _ (c .before .loop .j) _ (c .before .loop .inv .0) (c .loop-test .left) (c .before .loop .inv .1))

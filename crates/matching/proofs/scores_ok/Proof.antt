@@ -32,9 +32,7 @@ wide-requires : tie.Need-wide-requires Inv-loop μ-loop
 wide-requires c κs = search needs
 
 mul-row-ok : tie.Need-mul-row-ok Inv-loop μ-loop
-mul-row-ok c =
-    let given = c .before .before .before .before .before .before .before .args in
-    omega (arith, row-in (c .before .before .before .loop .i) (given .tracks) (given .reports) _ (c .before .before .loop-test .taken) (c .before .before .before .before .before .before .before .pre .0))
+mul-row-ok c = omega (arith, row-in (c .before .before .before .loop .i) (c .before .before .before .before .before .before .before .args .tracks) (c .before .before .before .before .before .before .before .args .reports) _ (c .before .before .loop-test .taken) (c .before .before .before .before .before .before .before .pre .0))
 
 row-ok-requires : tie.Need-row-ok-requires Inv-loop μ-loop
 row-ok-requires c κs = (row-in (c .before .before .before .loop .i) _ _ _ (c .before .before .loop-test .taken) (c .before .before .before .before .before .before .before .pre .0), search needs)
@@ -50,9 +48,7 @@ loop-less : tie.Need-loop-less Inv-loop μ-loop
 loop-less c = search needs
 
 loop-again : tie.Need-loop-again Inv-loop μ-loop
-loop-again c =
-    let l = c .before .before .before .before .before .loop in
-    (search needs, each-more _ (l .i) (l .inv .1) (rw (← c .before .before .wide .ensures .0) (sym (c .before .row-ok .ensures) ∙ not-false _ (c .if1 .left))))
+loop-again c = (search needs, each-more _ (c .before .before .before .before .before .loop .i) (c .before .before .before .before .before .loop .inv .1) (rw (← c .before .before .wide .ensures .0) (sym (c .before .row-ok .ensures) ∙ not-false _ (c .if1 .left))))
 
 returns-2 : tie.Need-returns-2 Inv-loop μ-loop
 unfolding scoresOk

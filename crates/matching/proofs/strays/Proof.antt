@@ -33,9 +33,7 @@ stray-requires : tie.Need-stray-requires Inv-loop μ-loop
 stray-requires c κs = search needs
 
 add-count : tie.Need-add-count Inv-loop μ-loop
-add-count c =
-    let given = c .before .before .before .before .before .args in
-    omega (arith, count-upto (c .before .before .before .loop .i) (ok (given .sheet .now)), bit-small (ok (given .sheet .now) (c .before .before .before .loop .i)), c .before .before .before .loop .inv .1, c .stray .ensures)
+add-count c = omega (arith, count-upto (c .before .before .before .loop .i) (ok (c .before .before .before .before .before .args .sheet .now)), bit-small (ok (c .before .before .before .before .before .args .sheet .now) (c .before .before .before .loop .i)), c .before .before .before .loop .inv .1, c .stray .ensures)
 
 add-i : tie.Need-add-i Inv-loop μ-loop
 add-i c = search needs

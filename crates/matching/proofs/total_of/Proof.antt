@@ -20,9 +20,7 @@ loop-holds : tie.Need-loop-holds Inv-loop μ-loop
 loop-holds c = (search needs, (sum-none _, search needs))
 
 cost-requires : tie.Need-cost-requires Inv-loop μ-loop
-cost-requires c κs =
-    let p = c .before .before .before .before .pre in
-    (search needs, (row-in (c .before .loop .i) _ _ _ (c .loop-test .taken) (p .1 .0), facts.valid _ _ (p .1 .1 .1) .there (c .before .loop .i) (c .loop-test .taken)))
+cost-requires c κs = (search needs, (row-in (c .before .loop .i) _ _ _ (c .loop-test .taken) (c .before .before .before .before .pre .1 .0), facts.valid _ _ (c .before .before .before .before .pre .1 .1 .1) .there (c .before .loop .i) (c .loop-test .taken)))
 
 add-sum : tie.Need-add-sum Inv-loop μ-loop
 add-sum c = search needs

@@ -40,9 +40,7 @@ cast-near-of : tie.Need-cast-near-of Inv-loop μ-loop
 cast-near-of c = omega (arith, c .before .before .before .before .before .before .pre .few)
 
 near-of-requires : tie.Need-near-of-requires Inv-loop μ-loop
-near-of-requires c κs =
-    let p = c .before .before .before .before .before .before .pre in
-    (p .small (c .before .before .before .loop .j) (c .before .before .loop-test .taken), omega (arith, p .few))
+near-of-requires c κs = (c .before .before .before .before .before .before .pre .small (c .before .before .before .loop .j) (c .before .before .loop-test .taken), omega (arith, c .before .before .before .before .before .before .pre .few))
 
 low-requires : tie.Need-low-requires Inv-loop μ-loop
 low-requires c κs = (c .near-of .ensures .1 .1, c .before .before .before .before .loop .inv .1 .0)
@@ -55,18 +53,16 @@ loop-less c = search needs
 
 loop-again : tie.Need-loop-again Inv-loop μ-loop
 loop-again c =
-    let given = c .before .before .before .before .before .before .before .before .args in
-    let loop-test = c .before .before .before .before .loop-test in
     let a = c .before .before .before .before .before .loop in
     let l = c .low .ensures in
     let e = c .before .near-of .ensures in
-    let q : a .j < 256 = omega (arith, c .before .before .before .before .before .before .before .before .pre .few, loop-test .taken) in (
+    let q : a .j < 256 = omega (arith, c .before .before .before .before .before .before .before .before .pre .few, c .before .before .before .before .loop-test .taken) in (
       search needs,
       (
         omega (arith, l .1 .0),
         (
           below-more _ _ (λ k h. near-low _ _ _ (l .1 .0) (a .inv .1 .1 .0 k h)) (near-here _ _ _ _ (l .0) q (e .0) (e .1 .0)),
-          ⊎-elim (λ g. rw (l .1 .1 .1 g) (a .inv .1 .1 .1)) (λ g. rw (l .1 .1 .0 g) (near-met (given .labels .now) (given .closings .now) _ _ q (loop-test .taken) (e .0) (e .1 .0))) (le-or-lt (a .best) (c .before .near-of .result)),
+          ⊎-elim (λ g. rw (l .1 .1 .1 g) (a .inv .1 .1 .1)) (λ g. rw (l .1 .1 .0 g) (near-met (c .before .before .before .before .before .before .before .before .args .labels .now) (c .before .before .before .before .before .before .before .before .args .closings .now) _ _ q (c .before .before .before .before .loop-test .taken) (e .0) (e .1 .0))) (le-or-lt (a .best) (c .before .near-of .result)),
         ),
       ),
     )

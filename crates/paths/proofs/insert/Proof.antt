@@ -20,9 +20,7 @@ idx-requires : tie.Need-idx-requires
 idx-requires c κs = search needs
 
 mul-prices : tie.Need-mul-prices
-mul-prices c =
-    let p = c .before .before .before .before .before .before .before .before .before .before .before .before .before .before .before .before .before .before .before .before .before .before .before .before .before .before .before .before .before .before .before .before .before .before .before .pre in
-    omega (arith, c .idx .ensures, p .track-in, p .good .shape .tracks-few)
+mul-prices c = omega (arith, c .idx .ensures, c .before .before .before .before .before .before .before .before .before .before .before .before .before .before .before .before .before .before .before .before .before .before .before .before .before .before .before .before .before .before .before .before .before .before .before .pre .track-in, c .before .before .before .before .before .before .before .before .before .before .before .before .before .before .before .before .before .before .before .before .before .before .before .before .before .before .before .before .before .before .before .before .before .before .before .pre .good .shape .tracks-few)
 
 slice-read-prices : tie.Need-slice-read-prices
 slice-read-prices c = omega (arith, c .before .idx .ensures, c .before .before .before .before .before .before .before .before .before .before .before .before .before .before .before .before .before .before .before .before .before .before .before .before .before .before .before .before .before .before .before .before .before .before .before .before .pre .track-in, c .before .before .before .before .raise-prices .ensures .prices-long)
@@ -31,9 +29,7 @@ add-prices : tie.Need-add-prices
 add-prices c = omega (arith, u1-small (c .before .before .before .before .before .before .before .before .before .before .before .before .before .before .before .before .before .before .before .before .before .before .before .before .before .before .before .before .before .before .before .before .before .before .before .before .pre) (c .before .before .before .before .before .before .before .before .before .before .before .before .before .before .before .before .before .before .before .before .search .ensures) (c .before .before .before .before .raise-prices .ensures) (c .before .before .before .before .before .before .before .before .before .before .before .raise-discounts .ensures) (c .before .idx .ensures))
 
 mul-prices-2 : tie.Need-mul-prices-2
-mul-prices-2 c =
-    let p = c .before .before .before .before .before .before .before .before .before .before .before .before .before .before .before .before .before .before .before .before .before .before .before .before .before .before .before .before .before .before .before .before .before .before .before .before .pre in
-    omega (arith, c .before .idx .ensures, p .track-in, p .good .shape .tracks-few)
+mul-prices-2 c = omega (arith, c .before .idx .ensures, c .before .before .before .before .before .before .before .before .before .before .before .before .before .before .before .before .before .before .before .before .before .before .before .before .before .before .before .before .before .before .before .before .before .before .before .before .pre .track-in, c .before .before .before .before .before .before .before .before .before .before .before .before .before .before .before .before .before .before .before .before .before .before .before .before .before .before .before .before .before .before .before .before .before .before .before .before .pre .good .shape .tracks-few)
 
 slice-write-prices : tie.Need-slice-write-prices
 slice-write-prices c = omega (arith, c .before .idx .ensures, c .before .before .before .before .before .before .before .before .before .before .before .before .before .before .before .before .before .before .before .before .before .before .before .before .before .before .before .before .before .before .before .before .before .before .before .before .pre .track-in, c .before .before .before .before .raise-prices .ensures .prices-long)

@@ -27,9 +27,7 @@ pass-through-requires : tie.Need-pass-through-requires Inv-loop μ-loop
 pass-through-requires c κs = (c .before .before .before .before .before .loop .inv, sym (c .before .before .before .before .is-taken .ensures) ∙ c .before .before .before .if1 .taken)
 
 loop-less : tie.Need-loop-less Inv-loop μ-loop
-loop-less c =
-    let pass-through = c .before .before .before .before .before .before .pass-through in
-    omega (arith, pass-through .ensures .1, pass-through .ensures .0 .tree .count)
+loop-less c = omega (arith, c .before .before .before .before .before .before .pass-through .ensures .1, c .before .before .before .before .before .before .pass-through .ensures .0 .tree .count)
 
 loop-again : tie.Need-loop-again Inv-loop μ-loop
 loop-again c = c .before .before .before .before .before .before .pass-through .ensures .0

@@ -23,17 +23,13 @@ same-length : tie.Need-same-length
 same-length c = search needs
 
 returns : tie.Need-returns
-returns c =
-    let score-sheet = c .before .before .before .before .before .score-sheet in
-    sheet-refused (score-sheet .ensures .0) (score-sheet .ensures .1) (c .before .answer .given .1)
+returns c = sheet-refused (c .before .before .before .before .before .score-sheet .ensures .0) (c .before .before .before .before .before .score-sheet .ensures .1) (c .before .answer .given .1)
 
 same-length-2 : tie.Need-same-length-2
 same-length-2 c = search needs
 
 returns-2 : tie.Need-returns-2
-returns-2 c =
-    let score-sheet = c .before .before .before .before .before .before .score-sheet in
-    sheet-done (score-sheet .ensures .0) (score-sheet .ensures .1) (c .before .before .answer2 .given .1)
+returns-2 c = sheet-done (c .before .before .before .before .before .before .score-sheet .ensures .0) (c .before .before .before .before .before .before .score-sheet .ensures .1) (c .before .before .answer2 .given .1)
 
 pub plot-score-sheet-spec : {M : Type 1} → statement M
 plot-score-sheet-spec =

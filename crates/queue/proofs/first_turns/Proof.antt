@@ -14,9 +14,7 @@ abbrev μ-loop : tie.MeasureT-loop
 μ-loop sheet reports pairing₀ owner₀ prices₀ discounts₀ labels₀ via₀ closings₀ k₀ pairing owner prices discounts labels via closings k = length prices₀ - k
 
 loop-holds : tie.Need-loop-holds Inv-loop μ-loop
-loop-holds c =
-    let p = c .before .before .before .before .before .before .before .before .pre in
-    (p .0, (p .1, search needs))
+loop-holds c = (c .before .before .before .before .before .before .before .before .pre .0, (c .before .before .before .before .before .before .before .before .pre .1, search needs))
 
 next-turn-requires : tie.Need-next-turn-requires Inv-loop μ-loop
 next-turn-requires c κs =
@@ -52,9 +50,8 @@ sub-insert c = search needs
 
 insert-requires : tie.Need-insert-requires Inv-loop μ-loop
 insert-requires c κs =
-    let l = c .before .before .before .before .before .before .before .before .before .before .before .before .loop in
     let t = c .before .before .before .before .before .before .before .before .next-turn .ensures (omega (arith, c .before .before .before .before .before .before .before .if1 .left)) in
-    to-search _ _ _ _ _ _ _ _ _ _ (good-len _ _ _ _ _ _ _ (l .inv .0)) (l .inv .1 .0) (t .0) (t .1)
+    to-search _ _ _ _ _ _ _ _ _ _ (good-len _ _ _ _ _ _ _ (c .before .before .before .before .before .before .before .before .before .before .before .before .loop .inv .0)) (c .before .before .before .before .before .before .before .before .before .before .before .before .loop .inv .1 .0) (t .0) (t .1)
 
 next-round-requires : tie.Need-next-round-requires Inv-loop μ-loop
 next-round-requires c κs = omega (arith, c .before .before .before .before .before .before .before .before .before .before .before .before .before .before .before .before .before .before .before .before .before .before .before .before .before .before .before .loop .inv .0 .shape .prices-long, c .before .before .before .before .before .before .before .before .before .before .before .before .before .before .insert .ensures .0 .good .shape .prices-long, c .before .before .before .before .before .before .before .before .before .before .before .before .before .before .before .before .before .before .before .before .before .before .before .before .before .before .loop-test .taken)
@@ -64,10 +61,8 @@ loop-less c = omega (arith, c .next-round .ensures .0, c .before .before .before
 
 loop-again : tie.Need-loop-again Inv-loop μ-loop
 loop-again c =
-    let l = c .before .before .before .before .before .before .before .before .before .before .before .before .before .before .before .before .before .before .before .before .before .before .before .before .before .before .before .before .loop in
-    let insert = c .before .before .before .before .before .before .before .before .before .before .before .before .before .before .before .insert in
-    let G = l .inv .0 in
-    (good-at _ _ _ _ _ _ _ _ (G .shape .prices-long) (insert .ensures .0 .good), (record { labels-long = search needs; via-long = omega (arith, c .before .before .before .before .via .given, l .inv .1 .0 .via-long); closings-long = omega (arith, c .before .before .closings .given, l .inv .1 .0 .closings-long) }, omega (arith, c .next-round .ensures .1, G .shape .prices-long, insert .ensures .0 .good .shape .prices-long)))
+    let G = c .before .before .before .before .before .before .before .before .before .before .before .before .before .before .before .before .before .before .before .before .before .before .before .before .before .before .before .before .loop .inv .0 in
+    (good-at _ _ _ _ _ _ _ _ (G .shape .prices-long) (c .before .before .before .before .before .before .before .before .before .before .before .before .before .before .before .insert .ensures .0 .good), (record { labels-long = search needs; via-long = omega (arith, c .before .before .before .before .via .given, c .before .before .before .before .before .before .before .before .before .before .before .before .before .before .before .before .before .before .before .before .before .before .before .before .before .before .before .before .loop .inv .1 .0 .via-long); closings-long = omega (arith, c .before .before .closings .given, c .before .before .before .before .before .before .before .before .before .before .before .before .before .before .before .before .before .before .before .before .before .before .before .before .before .before .before .before .loop .inv .1 .0 .closings-long) }, omega (arith, c .next-round .ensures .1, G .shape .prices-long, c .before .before .before .before .before .before .before .before .before .before .before .before .before .before .before .insert .ensures .0 .good .shape .prices-long)))
 
 same-length-8 : tie.Need-same-length-8 Inv-loop μ-loop
 same-length-8 c = search needs

@@ -14,9 +14,7 @@ abbrev μ-loop : tie.MeasureT-loop
 μ-loop sheet reports pairing owner prices discounts slack₀ track₀ slack track = length prices - track
 
 loop-holds : tie.Need-loop-holds Inv-loop μ-loop
-loop-holds c =
-    let p2 = c .before .before .before .before .before .before .pre in
-    (search needs, record { slack-long = p2 .1 .0; small = p2 .1 .1; room = λ i j h g p f a. absurd (omega arith) })
+loop-holds c = (search needs, record { slack-long = c .before .before .before .before .before .before .pre .1 .0; small = c .before .before .before .before .before .before .pre .1 .1; room = λ i j h g p f a. absurd (omega arith) })
 
 keep-row-requires : tie.Need-keep-row-requires Inv-loop μ-loop
 keep-row-requires c κs = (c .before .before .before .before .before .before .before .before .before .pre .0, (c .before .loop-test .taken, c .before .before .loop .inv .1))

@@ -49,10 +49,8 @@ same-length-5 c = search needs
 
 returns-2 : tie.Need-returns-2
 returns-2 c =
-    let highest = c .before .before .before .before .before .before .before .before .before .before .before .before .before .before .highest in
-    let lesser = c .before .before .before .before .before .before .before .before .before .before .before .before .before .lesser in
     let L = c .before .before .before .before .before .before .before .before .before .before .before .before .before .before .before .before .before .before .before .before .before .before .before .before .pre in
-    lifted _ _ _ _ _ _ _ _ L _ (λ j g z. omega (arith, lesser .ensures .0, c .before .before .before .before .before .before .before .before .before .before .before .before .before .before .before .before .least-slack .ensures .1 j (omega (arith, L .slacks .slack-long)) z)) (λ i h. omega (arith, lesser .ensures .1 .0, highest .ensures .1 i h, highest .ensures .0)) _ _ _ (c .before .before .before .before .before .before .before .before .before .before .raise-paired .ensures) (c .before .before .before .before .before .before .raise-paired2 .ensures) (c .before .before .spend .ensures)
+    lifted _ _ _ _ _ _ _ _ L _ (λ j g z. omega (arith, c .before .before .before .before .before .before .before .before .before .before .before .before .before .lesser .ensures .0, c .before .before .before .before .before .before .before .before .before .before .before .before .before .before .before .before .least-slack .ensures .1 j (omega (arith, L .slacks .slack-long)) z)) (λ i h. omega (arith, c .before .before .before .before .before .before .before .before .before .before .before .before .before .lesser .ensures .1 .0, c .before .before .before .before .before .before .before .before .before .before .before .before .before .before .highest .ensures .1 i h, c .before .before .before .before .before .before .before .before .before .before .before .before .before .before .highest .ensures .0)) _ _ _ (c .before .before .before .before .before .before .before .before .before .before .raise-paired .ensures) (c .before .before .before .before .before .before .raise-paired2 .ensures) (c .before .before .spend .ensures)
 
 pub lift-spec : {M : Type 1} → statement M
 lift-spec =

@@ -16,9 +16,7 @@ abbrev μ-loop : tie.MeasureT-loop
 μ-loop sheet reports pairing₀ owner₀ prices₀ discounts₀ labels₀ via₀ closings₀ slack₀ k₀ pairing owner prices discounts labels via closings slack k = length prices₀ - k
 
 loop-holds : tie.Need-loop-holds Inv-loop μ-loop
-loop-holds c =
-    let p = c .before .before .before .before .before .before .before .before .before .pre in
-    (p .0, (p .1, search needs))
+loop-holds c = (c .before .before .before .before .before .before .before .before .before .pre .0, (c .before .before .before .before .before .before .before .before .before .pre .1, search needs))
 
 next-turn-requires : tie.Need-next-turn-requires Inv-loop μ-loop
 next-turn-requires c κs =
@@ -57,9 +55,8 @@ sub-lifted-turn c = search needs
 
 lifted-turn-requires : tie.Need-lifted-turn-requires Inv-loop μ-loop
 lifted-turn-requires c κs =
-    let l = c .before .before .before .before .before .before .before .before .before .before .before .before .before .loop in
-    let L = l .inv .0 in
-    (lifting-at _ _ _ _ _ _ _ _ _ (sym (L .good .shape .prices-long)) L, (l .inv .1 .0, c .before .before .before .before .before .before .before .before .before .next-turn .ensures (omega (arith, c .before .before .before .before .before .before .before .before .if1 .left))))
+    let L = c .before .before .before .before .before .before .before .before .before .before .before .before .before .loop .inv .0 in
+    (lifting-at _ _ _ _ _ _ _ _ _ (sym (L .good .shape .prices-long)) L, (c .before .before .before .before .before .before .before .before .before .before .before .before .before .loop .inv .1 .0, c .before .before .before .before .before .before .before .before .before .next-turn .ensures (omega (arith, c .before .before .before .before .before .before .before .before .if1 .left))))
 
 add-k : tie.Need-add-k Inv-loop μ-loop
 add-k c = search needs

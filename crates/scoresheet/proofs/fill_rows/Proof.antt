@@ -81,11 +81,9 @@ loop-less c = search needs
 loop-again : tie.Need-loop-again Inv-loop μ-loop
 unfolding rowOf
 loop-again c =
-    let l = c .before .before .before .before .before .before .before .before .loop in
-    let loop-test = c .before .before .before .before .before .before .before .loop-test in
     let b = c .before .before .before .before .before .before .before .before .before .before .before in
-    let n = next-row (b .pre .0) (b .pre .1) (l .inv) (loop-test .taken) in
-    rows-more _ (l .inv) (loop-test .taken) (n .room)
+    let n = next-row (b .pre .0) (b .pre .1) (c .before .before .before .before .before .before .before .before .loop .inv) (c .before .before .before .before .before .before .before .loop-test .taken) in
+    rows-more _ (c .before .before .before .before .before .before .before .before .loop .inv) (c .before .before .before .before .before .before .before .loop-test .taken) (n .room)
     (c .before .before .fill-row .ensures ∙ rw (c .before .before .before .before .unpack .ensures))
 
 same-length : tie.Need-same-length Inv-loop μ-loop

@@ -7,9 +7,7 @@ use Rattle.sector.proofs.serve.Statement.{statement}
 use Rattle.sector.proofs.serve.Tie as tie
 
 mul-cells : tie.Need-mul-cells
-mul-cells c =
-    let p = c .before .before .before .before .before .before .pre in
-    omega (arith, due-listed (p .0) (p .1 .0) .cells)
+mul-cells c = omega (arith, due-listed (c .before .before .before .before .before .before .pre .0) (c .before .before .before .before .before .before .pre .1 .0) .cells)
 
 blank-sheet-requires : tie.Need-blank-sheet-requires
 blank-sheet-requires c κs = search needs
@@ -21,34 +19,22 @@ blank-list-requires-2 : tie.Need-blank-list-requires-2
 blank-list-requires-2 c κs = search needs
 
 array-borrow-prefix-sheet : tie.Need-array-borrow-prefix-sheet
-array-borrow-prefix-sheet c =
-    let p = c .before .before .before .before .before .before .before .before .before .before .pre in
-    omega (arith, due-listed (p .0) (p .1 .0) .cells, c .before .before .before .blank-sheet .ensures)
+array-borrow-prefix-sheet c = omega (arith, due-listed (c .before .before .before .before .before .before .before .before .before .before .pre .0) (c .before .before .before .before .before .before .before .before .before .before .pre .1 .0) .cells, c .before .before .before .blank-sheet .ensures)
 
 slice-aggregate-serve-due : tie.Need-slice-aggregate-serve-due
-slice-aggregate-serve-due c =
-    let p = c .before .before .before .before .before .before .before .before .before .before .before .pre in
-    sym (length-take-le _ _ (omega (arith, due-listed (p .0) (p .1 .0) .cells, c .before .before .before .before .blank-sheet .ensures)))
+slice-aggregate-serve-due c = sym (length-take-le _ _ (omega (arith, due-listed (c .before .before .before .before .before .before .before .before .before .before .before .pre .0) (c .before .before .before .before .before .before .before .before .before .before .before .pre .1 .0) .cells, c .before .before .before .before .blank-sheet .ensures)))
 
 array-borrow-prefix-pairing : tie.Need-array-borrow-prefix-pairing
-array-borrow-prefix-pairing c =
-    let p = c .before .before .before .before .before .before .before .before .before .before .before .pre in
-    omega (arith, due-listed (p .0) (p .1 .0) .few, c .before .before .before .blank-list .ensures)
+array-borrow-prefix-pairing c = omega (arith, due-listed (c .before .before .before .before .before .before .before .before .before .before .before .pre .0) (c .before .before .before .before .before .before .before .before .before .before .before .pre .1 .0) .few, c .before .before .before .blank-list .ensures)
 
 slice-aggregate-serve-due-2 : tie.Need-slice-aggregate-serve-due-2
-slice-aggregate-serve-due-2 c =
-    let p = c .before .before .before .before .before .before .before .before .before .before .before .before .pre in
-    sym (length-take-le _ _ (omega (arith, due-listed (p .0) (p .1 .0) .few, c .before .before .before .before .blank-list .ensures)))
+slice-aggregate-serve-due-2 c = sym (length-take-le _ _ (omega (arith, due-listed (c .before .before .before .before .before .before .before .before .before .before .before .before .pre .0) (c .before .before .before .before .before .before .before .before .before .before .before .before .pre .1 .0) .few, c .before .before .before .before .blank-list .ensures)))
 
 array-borrow-prefix-track-prices : tie.Need-array-borrow-prefix-track-prices
-array-borrow-prefix-track-prices c =
-    let p = c .before .before .before .before .before .before .before .before .before .before .before .before .pre in
-    omega (arith, due-listed (p .0) (p .1 .0) .few, c .before .before .before .blank-list2 .ensures)
+array-borrow-prefix-track-prices c = omega (arith, due-listed (c .before .before .before .before .before .before .before .before .before .before .before .before .pre .0) (c .before .before .before .before .before .before .before .before .before .before .before .before .pre .1 .0) .few, c .before .before .before .blank-list2 .ensures)
 
 slice-aggregate-serve-due-3 : tie.Need-slice-aggregate-serve-due-3
-slice-aggregate-serve-due-3 c =
-    let p = c .before .before .before .before .before .before .before .before .before .before .before .before .before .pre in
-    sym (length-take-le _ _ (omega (arith, due-listed (p .0) (p .1 .0) .few, c .before .before .before .before .blank-list2 .ensures)))
+slice-aggregate-serve-due-3 c = sym (length-take-le _ _ (omega (arith, due-listed (c .before .before .before .before .before .before .before .before .before .before .before .before .before .pre .0) (c .before .before .before .before .before .before .before .before .before .before .before .before .before .pre .1 .0) .few, c .before .before .before .before .blank-list2 .ensures)))
 
 serve-due-requires : tie.Need-serve-due-requires
 serve-due-requires c κs =

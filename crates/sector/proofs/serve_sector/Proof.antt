@@ -36,21 +36,13 @@ unfolding roomFor reportsOf
 returns-2 c = by-room _ _ (sym (c .before .before .before .before .take-in .ensures .0) ∙ c .before .before .if1 .left) (sym (c .before .has-room .ensures) ∙ not-true _ (c .if2 .taken))
 
 array-share-prefix-due : tie.Need-array-share-prefix-due
-array-share-prefix-due c =
-    let take-in = c .before .before .before .before .before .take-in in
-    listed-room _ _ (take-in .ensures .1 (c .before .before .before .if1 .left) .0) (take-in .ensures .1 (c .before .before .before .if1 .left) .1)
+array-share-prefix-due c = listed-room _ _ (c .before .before .before .before .before .take-in .ensures .1 (c .before .before .before .if1 .left) .0) (c .before .before .before .before .before .take-in .ensures .1 (c .before .before .before .if1 .left) .1)
 
 slice-aggregate-serve : tie.Need-slice-aggregate-serve
-slice-aggregate-serve c =
-    let take-in = c .before .before .before .before .before .before .take-in in
-    let if1 = c .before .before .before .before .if1 in
-    sym (length-take-le _ _ (listed-room _ _ (take-in .ensures .1 (if1 .left) .0) (take-in .ensures .1 (if1 .left) .1)))
+slice-aggregate-serve c = sym (length-take-le _ _ (listed-room _ _ (c .before .before .before .before .before .before .take-in .ensures .1 (c .before .before .before .before .if1 .left) .0) (c .before .before .before .before .before .before .take-in .ensures .1 (c .before .before .before .before .if1 .left) .1)))
 
 serve-requires : tie.Need-serve-requires
-serve-requires c κs =
-    let take-in = c .before .before .before .before .before .before .before .before .before .before .before .take-in in
-    let if1 = c .before .before .before .before .before .before .before .before .before .if1 in
-    (ready _ (sym (take-in .ensures .0) ∙ if1 .left), (take-in .ensures .1 (if1 .left) .1, room-facts (sym (c .before .before .before .before .before .before .before .before .has-room .ensures) ∙ not-false _ (c .before .before .before .before .before .before .before .if2 .left))))
+serve-requires c κs = (ready _ (sym (c .before .before .before .before .before .before .before .before .before .before .before .take-in .ensures .0) ∙ c .before .before .before .before .before .before .before .before .before .if1 .left), (c .before .before .before .before .before .before .before .before .before .before .before .take-in .ensures .1 (c .before .before .before .before .before .before .before .before .before .if1 .left) .1, room-facts (sym (c .before .before .before .before .before .before .before .before .has-room .ensures) ∙ not-false _ (c .before .before .before .before .before .before .before .if2 .left))))
 
 next-sector-requires : tie.Need-next-sector-requires
 next-sector-requires c κs = ready _ (sym (c .before .before .before .before .before .before .before .before .before .before .before .before .before .before .before .before .before .before .before .before .before .before .before .take-in .ensures .0) ∙ c .before .before .before .before .before .before .before .before .before .before .before .before .before .before .before .before .before .before .before .before .before .if1 .left) .sector-in

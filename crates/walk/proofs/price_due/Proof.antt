@@ -31,9 +31,7 @@ shared-slice-read-prices : tie.Need-shared-slice-read-prices Inv-loop μ-loop
 shared-slice-read-prices c = omega (arith, c .before .before .before .before .pre .priced)
 
 mul-prices-2 : tie.Need-mul-prices-2 Inv-loop μ-loop
-mul-prices-2 c =
-    let p = c .before .before .before .before .pre in
-    omega (arith, p .places .within _ (c .before .before .loop-test .taken), p .few)
+mul-prices-2 c = omega (arith, c .before .before .before .before .pre .places .within _ (c .before .before .loop-test .taken), c .before .before .before .before .pre .few)
 
 slice-write-prices : tie.Need-slice-write-prices Inv-loop μ-loop
 slice-write-prices c = omega (arith, c .before .before .before .before .pre .places .within _ (c .before .before .loop-test .taken), c .before .before .before .loop .inv .same)

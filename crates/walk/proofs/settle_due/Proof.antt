@@ -48,10 +48,9 @@ loop-less c = search needs
 
 loop-again : tie.Need-loop-again Inv-loop μ-loop
 loop-again c =
-    let l = c .before .before .before .before .loop in
     let s = c .before .before .before .before .before .before .before in
-    placed-more [] (l .inv) (c .before .before .before .loop-test .taken) (s .pre .places)
-    (rw (next-settled (s .pre) (l .inv) (c .before .before .before .loop-test .taken) .same) at (c .settled-slot .ensures))
+    placed-more [] (c .before .before .before .before .loop .inv) (c .before .before .before .loop-test .taken) (s .pre .places)
+    (rw (next-settled (s .pre) (c .before .before .before .before .loop .inv) (c .before .before .before .loop-test .taken) .same) at (c .settled-slot .ensures))
 
 same-length : tie.Need-same-length Inv-loop μ-loop
 same-length c = c .before .loop .inv .same

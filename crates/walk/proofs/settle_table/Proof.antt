@@ -15,9 +15,7 @@ slice-aggregate-price-slots : tie.Need-slice-aggregate-price-slots
 slice-aggregate-price-slots c = sym (length-take-le _ _ (c .before .before .before .before .before .pre .1 .room))
 
 price-slots-requires : tie.Need-price-slots-requires
-price-slots-requires c κs =
-    let p = c .before .before .before .before .before .pre in
-    due-priced (p .0) (p .1)
+price-slots-requires c κs = due-priced (c .before .before .before .before .before .pre .0) (c .before .before .before .before .before .pre .1)
 
 age-table-requires : tie.Need-age-table-requires
 age-table-requires c κs = search needs
