@@ -2,63 +2,16 @@
 //! must pass, with another engine too, and with each of the faults below it must not.
 //! `PLOTUNIT_FAULT` chooses.
 
+mod faults;
+
+pub use faults::{ANOTHER_ENGINE, FAULTS};
+
 use crate::reference::records::{sector_of, Report};
 use crate::reference::settling::settle;
 use crate::reference::*;
 use std::slice::{from_raw_parts, from_raw_parts_mut};
 use std::sync::atomic::{AtomicU64, Ordering};
 use std::sync::OnceLock;
-
-/// Every fault that the stand-in knows, in the order of their numbers from 1 on.
-pub const FAULTS: [&str; 44] = [
-    "refuses everything",
-    "pairs nothing",
-    "gives a fixed answer",
-    "leaves the table as it is",
-    "works in the first call and then only moves the sector",
-    "invents a count",
-    "the check always says no",
-    "the check always says yes",
-    "nearest report first, track by track",
-    "a remainder that comes out negative",
-    "due again one call later",
-    "total score alone",
-    "writes one fate beyond the reports",
-    "writes one price beyond the slots",
-    "writes before the table",
-    "writes the counts when refused",
-    "moves the sector when refused",
-    "writes a fate when refused",
-    "writes to the batch",
-    "sectors do not go round",
-    "shown from two updates on",
-    "a price where no track was due",
-    "one price off by one",
-    "one discount off by one",
-    "clears the other bytes of free slots",
-    "a dropped slot keeps its bytes",
-    "a weak report starts a track",
-    "starts tracks in the highest free slot",
-    "slots freed in this call do not count",
-    "refusals 6 and 7 report by report",
-    "refusal 9 before refusal 8",
-    "halves of the position number go down",
-    "another best pairing than pair_sheet's",
-    "the sheet call writes beyond its cells",
-    "the sheet call gives reports by tracks",
-    "the pairing call writes beyond its pairing",
-    "the pairing call takes a cell of 2,097,152",
-    "the check tests prices before pairs",
-    "the check forgets the discounts' range",
-    "the check reads beyond the reports of a pairing",
-    "updates goes round at 255",
-    "coasting forgets the azimuth speed",
-    "misses are kept after an update",
-    "the speed is held after it was added",
-];
-
-/// No fault: the stand-in takes other best pairings and other prices than the reference.
-pub const ANOTHER_ENGINE: usize = 100;
 
 fn fault() -> usize {
     static FAULT: OnceLock<usize> = OnceLock::new();
