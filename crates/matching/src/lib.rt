@@ -100,13 +100,15 @@ pub fn sheet_refusal(
     0
 }
 
-fn index(x: u32) -> usize
+// A report or track number, as the index of a list.
+pub fn index(x: u32) -> usize
     ensures { λ r. ⌜ r ≡ x ⌝ }
 {
     x as usize
 }
 
-fn wide(x: u32) -> u64
+// Sums of scores and prices are taken in 64 bits.
+pub fn wide(x: u32) -> u64
     ensures { λ r. ⌜ (r ≡ x) × (r < 4294967296) ⌝ }
 {
     x as u64
