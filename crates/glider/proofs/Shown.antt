@@ -4,6 +4,7 @@ use mathlib.Core.Path.{_≡_, refl, ap, _∙_}
 use mathlib.Core.List.{List, [], _∷_, _++_}
 use lib.ListN.{drop}
 use Rattle.laws.specs.Lists.{at, firstIndex, indicesFrom, outs}
+use Rattle.laws.specs.Tests.{holds}
 use Rattle.laws.proofs.Listed.{entries}
 use Rattle.numbers.specs.Whole.{remainder}
 use Rattle.numbers.specs.Azimuth.{signed16}
@@ -18,7 +19,7 @@ use Rattle.settling.specs.Settle.{updatedOf}
 use Rattle.walk.specs.Table.{dueRank, pairedSlot, settledSlot, settledTable}
 use Rattle.fates.specs.Fates.{ownerOf, shownMark, slotOf, toldPaired, toldOf, afterReport, reportNumbers, shownOf}
 use Rattle.sector.specs.declared.Served.{Served}
-use Rattle.sector.specs.Serve.{Lent, lent, rooms, allPass, roomFor, sectorRefusal, Chosen, Choice, reportsIn, afterOf, ServesSector}
+use Rattle.sector.specs.Serve.{Lent, lent, rooms, roomFor, sectorRefusal, Chosen, Choice, reportsIn, afterOf, ServesSector}
 use Rattle.glider.specs.Scene.{table, batch, sector, scene, cells, kept, bothShown}
 use Rattle.glider.proofs.Story.{cells-are, best-keeps-the-glider}
 
@@ -35,7 +36,7 @@ unfolding reportsOf batch
 reports-are = refl
 
 not-refused : sectorRefusal scene lists ≡ 0
-unfolding sectorRefusal refusalOf faultOf numberOf demands noneOf slotBad reportBad reportElsewhere dueSlots indicesFrom firstIndex table batch bytesOf reportBytesOf trackOf reportOf speedOf signed16 remainder badSlotField slotDue badTrackField trackRules allowance badReportField reportRules sectorOf rooms allPass roomFor reportsOf
+unfolding sectorRefusal refusalOf faultOf numberOf demands noneOf slotBad reportBad reportElsewhere dueSlots indicesFrom firstIndex table batch bytesOf reportBytesOf trackOf reportOf speedOf signed16 remainder badSlotField slotDue badTrackField trackRules allowance badReportField reportRules sectorOf rooms holds roomFor reportsOf
 not-refused = refl
 
 -- whatever it chooses, each track has its own return

@@ -11,6 +11,7 @@ ghost use Rattle.glider.specs.Scene.{trackAt, returnAt, table, batch, si
 ghost use Rattle.matching.specs.Pairing.{mostReports};
 use libc::STDOUT_FILENO;
 use matching::NONE;
+use matching::index;
 use records::Report;
 use records::Site;
 use records::Track;
@@ -32,12 +33,6 @@ const RIDGE: u32 = 0;
 const GLIDER: u32 = 1;
 
 // ---- the old filter
-
-fn index(x: u32) -> usize
-    ensures { λ r. ⌜ r ≡ x ⌝ }
-{
-    x as usize
-}
 
 fn score_in(row: &[u32], report: u32) -> u32
     ensures { λ r. ⌜ r ≡ scoreIn (now (row .entry)) report ⌝ }

@@ -1,13 +1,13 @@
 -- Laws of `each`, a test of every number below n, and of `holds`, a list of tests.
 use Prim.Native.Nat.{ℕ, zero, suc, _+_, _≤_, _<_}
-use mathlib.Core.Path.{_≡_, refl}
+use mathlib.Core.Path.{_≡_, refl, _∙_}
 use mathlib.Core.Bool.{Bool, true, false, not, _&&_, _||_}
 use mathlib.Core.List.{List, [], _∷_}
 use mathlib.Core.Logic.{_⊎_, inl, inr, ⊎-elim}
 use native.Mathlib.Nat.{suc-inj, lt-suc-self, le-step, le-antisymm, eq-or-lt-of-le, le-of-suc-le-suc, not-suc-le-zero}
 use native.Mathlib.Numerals.{add-one}
 use native.Mathlib.Omega.{arith}
-use lib.Dec.{T, ltb, ltb→lt}
+use lib.Dec.{T, leb, ltb, ltb→lt, leb·suc-suc, leb·suc-zero}
 use lib.ListN.{length}
 use Rattle.laws.specs.Lists.{firstIndex}
 use Rattle.laws.specs.Tests.{each, holds, refuse}
@@ -127,6 +127,13 @@ pub all-pass : (bs : List Bool) → Each bs → firstIndex not bs ≡ length bs
 unfolding firstIndex
 all-pass [] w = refl
 all-pass (b ∷ bs) w = rw (w .0, all-pass bs (w .1))
+
+-- so a walk that stops at the first that fails finds whether all hold
+pub holds-first : (bs : List Bool) → leb (length bs) (firstIndex not bs) ≡ holds bs
+unfolding holds firstIndex
+holds-first [] = refl
+holds-first (true ∷ bs) = leb·suc-suc (length bs) (firstIndex not bs) ∙ holds-first bs
+holds-first (false ∷ bs) = leb·suc-zero (length bs)
 
 -- ---- a chain of refusals: no number comes of it just where each test holds
 

@@ -39,11 +39,11 @@ module _ (n m : ℕ) (s s′ : List ℕ) (c : Alike (n * m) (at s) (at s′)) wh
 
     total-same : pairingOk (sheetOf n m s) (at p) ≡ true → total (sheetOf n m s) (at p) ≡ total (sheetOf n m s′) (at p′)
     unfolding total
-    total-same e = sum-same n _ _ (λ i l. rw (← a i l) (cost _ i l (eqb (at p i) none) refl))
+    total-same e = sum-same n _ _ (λ i l. rw (← a i l) (counted _ i l (eqb (at p i) none) refl))
       where
-        cost : (c i : ℕ) → i < n → (b : Bool) → eqb (at p i) none ≡ b → cond b c (at s (i * m + at p i)) ≡ cond b c (at s′ (i * m + at p i))
-        cost c i l true f = refl
-        cost c i l false f =
+        counted : (c i : ℕ) → i < n → (b : Bool) → eqb (at p i) none ≡ b → cond b c (at s (i * m + at p i)) ≡ cond b c (at s′ (i * m + at p i))
+        counted c i l true f = refl
+        counted c i l false f =
             cell-same i (at p i) l (facts.valid (sheetOf n m s) (at p) e .there i l (eqb-false (at p i) none f))
 
   module _ (u u′ v v′ : List ℕ) (a : Alike n (at u) (at u′)) (b : Alike m (at v) (at v′)) where
@@ -55,9 +55,10 @@ numbers-same : (n : ℕ) (f g : ℕ → ℕ) → Alike n f g → numbersOk n f �
 unfolding numbersOk
 numbers-same n f g a = each-same _ _ n (λ i l. ap (λ x. leb x leftOut) (a i l))
 
-pub answer-same : (n m : ℕ) (s s′ p p′ u u′ v v′ : List ℕ) → Fits n m s p u v → Fits n m s′ p′ u′ v′ → Alike (n * m) (at s) (at s′) → Alike n (at p) (at p′) → Alike n (at u) (at u′) → Alike m (at v) (at v′) → checkAnswer n m s p u v ≡ checkAnswer n m s′ p′ u′ v′
+-- Lists that are long enough, and the same up to where n tracks and m reports need them, have the same answer.
+pub beyond-is-not-read : (n m : ℕ) (s s′ p p′ u u′ v v′ : List ℕ) → Fits n m s p u v → Fits n m s′ p′ u′ v′ → Alike (n * m) (at s) (at s′) → Alike n (at p) (at p′) → Alike n (at u) (at u′) → Alike m (at v) (at v′) → checkAnswer n m s p u v ≡ checkAnswer n m s′ p′ u′ v′
 unfolding checkAnswer sheetRefusal totalsOk
-answer-same n m s s′ p p′ u u′ v v′ z z′ cs ps us vs =
+beyond-is-not-read n m s s′ p p′ u u′ v v′ z z′ cs ps us vs =
     refuse-same _ _ _ _ _
     (facts.sizes-ok n m (length s) (length p) (length u) (length v) z ∙ sym (facts.sizes-ok n m (length s′) (length p′) (length u′) (length v′) z′))
     (λ e₁. refuse-same _ _ _ _ _ (cells-same n m s s′ cs)

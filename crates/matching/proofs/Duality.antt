@@ -12,9 +12,9 @@ use Rattle.laws.specs.Sums.{Sum}
 use Rattle.laws.proofs.Sums.{sum-le, sum-add, sum-under, sum-less, sum-zero, sum-injective}
 use Rattle.matching.specs.Pairing.{none, scoreEnd, leftOut, mostTracks, Sheet, InRange, HasReport, ValidPairing, pairs, misses, scoreOr, scoreSum, total, Best, FairPrices}
 
--- the highest scores of all tracks together are less than one track left out
-pub bound : mostTracks * (scoreEnd - 1) < leftOut
-bound = omega arith
+-- The highest scores of as many tracks as there may be come to less than one track left out: no saving in scores pays for that.
+pub leaving-out-is-never-cheap : mostTracks * (scoreEnd - 1) < leftOut
+leaving-out-is-never-cheap = omega arith
 
 -- ---- prices
 
@@ -101,13 +101,13 @@ no-misses S P z i l e =
     omega (arith, sum-less (S .tracks) i (λ k. 0) (λ k. cond (eqb (P k) none) 1 0) l (rw (eq-eqb (P i) none e) (lt-suc-self 0)) (λ k h. zero-le))
 
 -- the scores of a valid pairing come to less than one track left out
-pub scores-few : (S : Sheet) (P : ℕ → ℕ) → InRange S → ValidPairing S P → scoreSum S P < leftOut
+pub scores-stay-under : (S : Sheet) (P : ℕ → ℕ) → InRange S → ValidPairing S P → scoreSum S P < leftOut
 unfolding scoreSum
-scores-few S P r p =
+scores-stay-under S P r p =
     let a : Sum (S .tracks) (scoreOr 0 S P) ≤ S .tracks * (scoreEnd - 1) =
     sum-under (S .tracks) (scoreEnd - 1) _ (λ i l. score i l (eqb (P i) none) refl) in
     let b : S .tracks * (scoreEnd - 1) ≤ mostTracks * (scoreEnd - 1) = mul-le-mul-right (scoreEnd - 1) (r .tracks-few) in
-    omega (arith, bound)
+    omega (arith, leaving-out-is-never-cheap)
   where
     score : (i : ℕ) → i < S .tracks → (b : Bool) → eqb (P i) none ≡ b → cond b 0 (S .cell i (P i)) ≤ scoreEnd - 1
     score i l true e = zero-le
@@ -115,20 +115,21 @@ scores-few S P r p =
         let d : HasReport P i = eqb-false (P i) none e in
         omega (arith, r .scores i (P i) l (p .there i l d) (p .admissible i l d))
 
-pub least-best : (S : Sheet) (P : ℕ → ℕ) → InRange S → ValidPairing S P → ((Q : ℕ → ℕ) → ValidPairing S Q → total S P ≤ total S Q) → Best S P
-least-best S P r p h =
+-- A valid pairing of least total is best, and a best pairing has the least total.
+pub least-total-is-best : (S : Sheet) (P : ℕ → ℕ) → InRange S → ValidPairing S P → ((Q : ℕ → ℕ) → ValidPairing S Q → total S P ≤ total S Q) → Best S P
+least-total-is-best S P r p h =
     record {
       valid = p;
-      most = λ Q q l. omega (arith, h Q q, total-split S P, total-split S Q, scores-few S Q r q);
+      most = λ Q q l. omega (arith, h Q q, total-split S P, total-split S Q, scores-stay-under S Q r q);
       least = λ Q q e l. omega (arith, h Q q, total-split S P, total-split S Q);
     }
 
 pub at-most : {a b : ℕ} → (b < a → ⊥) → a ≤ b
 at-most h = omega arith
 
-pub best-least : (S : Sheet) (P Q : ℕ → ℕ) → InRange S → Best S P → ValidPairing S Q → total S P ≤ total S Q
-best-least S P Q r b q =
+pub best-has-least-total : (S : Sheet) (P Q : ℕ → ℕ) → InRange S → Best S P → ValidPairing S Q → total S P ≤ total S Q
+best-has-least-total S P Q r b q =
     ⊎-elim
     (λ e. let l : scoreSum S P ≤ scoreSum S Q = at-most (b .least Q q e) in omega (arith, total-split S P, total-split S Q))
-    (λ l. omega (arith, total-split S P, total-split S Q, scores-few S P r (b .valid)))
+    (λ l. omega (arith, total-split S P, total-split S Q, scores-stay-under S P r (b .valid)))
     (eq-or-lt-of-le (at-most (b .most Q q)))

@@ -1,6 +1,5 @@
 -- What the referee's word is worth (Theorems), and what leads there.
 pub mod Theorems
-pub mod Examples
 pub mod Duality
 pub mod Same
 pub mod Unused

@@ -33,8 +33,8 @@ list-at : (n : ℕ) (P : ℕ → ℕ) → Alike n P (at (listed n P))
 list-at n P i l = sym (listed-at n P i 0 l)
 
 module _ (S : Sheet) (p : List ℕ) where
-  pub list-best : BestList S p → Best S (at p)
-  list-best b =
+  pub list-is-best : BestList S p → Best S (at p)
+  list-is-best b =
       record {
         valid = b .valid;
         most = λ Q q l. b .most (list Q) (long Q) (as-list Q q) (rw (pairs-same S Q (at (list Q)) (list-at _ Q)) at l);
@@ -51,5 +51,5 @@ module _ (S : Sheet) (p : List ℕ) where
       as-list : (Q : ℕ → ℕ) → ValidPairing S Q → ValidPairing S (at (list Q))
       as-list Q = valid-same S Q (at (list Q)) (list-at _ Q)
 
-  pub best-list : S .tracks ≤ length p → Best S (at p) → BestList S p
-  best-list l b = record { long = l; valid = b .valid; most = λ q lq. b .most (at q); least = λ q lq. b .least (at q) }
+  pub best-is-list : S .tracks ≤ length p → Best S (at p) → BestList S p
+  best-is-list l b = record { long = l; valid = b .valid; most = λ q lq. b .most (at q); least = λ q lq. b .least (at q) }

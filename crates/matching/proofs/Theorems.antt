@@ -14,25 +14,21 @@ use Rattle.matching.specs.Pairing.{none, scoreEnd, leftOut, mostTracks, 
 use Rattle.matching.specs.Answer.{Sizes, Fits, sizesOk, cellsOk, pairingOk, numbersOk, scoresOk, totalsOk, sheetRefusal, checkAnswer}
 use Rattle.matching.proofs.Duality as duality
 use Rattle.matching.proofs.Facts as facts
-use Rattle.matching.proofs.Same as same
-use Rattle.matching.proofs.Unused as unused
-use Rattle.matching.proofs.Beyond as beyond
-
--- The highest scores of as many tracks as there may be come to less than one track left out: no saving in scores pays for leaving a
--- track out.
-pub leaving-out-is-never-cheap : mostTracks * (scoreEnd - 1) < leftOut
-leaving-out-is-never-cheap = duality.bound
-
--- So the scores of any valid pairing come to less than that.
-pub scores-stay-under : (S : Sheet) (P : ℕ → ℕ) → InRange S → ValidPairing S P → scoreSum S P < leftOut
-scores-stay-under = duality.scores-few
+-- the total measures 'most pairs, then least score': no saving in scores pays for leaving a track out
+pub use Rattle.matching.proofs.Duality.{leaving-out-is-never-cheap, scores-stay-under, least-total-is-best, best-has-least-total}
+-- a track left out has no admissible report that no track has
+pub use Rattle.matching.proofs.Unused.{no-report-unused}
+-- best over lists of report numbers, and best over functions, say the same
+pub use Rattle.matching.proofs.Same.{list-is-best, best-is-list}
+-- entries beyond those that the tracks and reports need are neither read nor judged
+pub use Rattle.matching.proofs.Beyond.{beyond-is-not-read}
 
 -- ---- certificates
 
 -- What a certificate shows is so: its pairing is best.
 pub accepted-is-best : (S : Sheet) (P u v : ℕ → ℕ) → Certificate S P u v → Best S P
 accepted-is-best S P u v c =
-    duality.least-best S P (c .range) (c .valid) (λ Q q. omega (arith, duality.prices-under S Q u v q (c .fair), c .totals))
+    least-total-is-best S P (c .range) (c .valid) (λ Q q. omega (arith, duality.prices-under S Q u v q (c .fair), c .totals))
 
 -- Prices and discounts that show one pairing best show it of every best pairing.
 pub best-is-accepted : (S : Sheet) (P Q u v : ℕ → ℕ) → Certificate S P u v → Best S Q → Certificate S Q u v
@@ -41,17 +37,10 @@ best-is-accepted S P Q u v c b =
       range = c .range;
       valid = b .valid;
       fair = c .fair;
-      totals = omega (arith, duality.prices-under S Q u v (b .valid) (c .fair), duality.best-least S Q P (c .range) b (c .valid), c .totals);
+      totals = omega (arith, duality.prices-under S Q u v (b .valid) (c .fair), best-has-least-total S Q P (c .range) b (c .valid), c .totals);
     }
 
 -- ---- best pairings
-
--- A valid pairing of least total is best, and a best pairing has the least total: the total measures 'most pairs, then least score'.
-pub least-total-is-best : (S : Sheet) (P : ℕ → ℕ) → InRange S → ValidPairing S P → ((Q : ℕ → ℕ) → ValidPairing S Q → total S P ≤ total S Q) → Best S P
-least-total-is-best = duality.least-best
-
-pub best-has-least-total : (S : Sheet) (P Q : ℕ → ℕ) → InRange S → Best S P → ValidPairing S Q → total S P ≤ total S Q
-best-has-least-total = duality.best-least
 
 -- All best pairings of a sheet have the same number of pairs, the same sum of scores and the same total.
 pub record Agree (S : Sheet) (P Q : ℕ → ℕ) : Type 0 where
@@ -75,17 +64,6 @@ fewest-misses S P Q b q =
 pub all-are-served : (S : Sheet) (P Q : ℕ → ℕ) → Best S P → ValidPairing S Q → ((i : ℕ) → i < S .tracks → HasReport Q i) → (i : ℕ) → i < S .tracks → HasReport P i
 all-are-served S P Q b q all =
     duality.no-misses S P (omega (arith, fewest-misses S P Q b q, duality.misses-none S Q all))
-
--- A track that a best pairing leaves out has no admissible report that is unused: some track has it.
-pub no-report-unused : (S : Sheet) (P : ℕ → ℕ) → Best S P → S .reports ≤ none → (i j : ℕ) → i < S .tracks → P i ≡ none → j < S .reports → Admissible S i j → (k : ℕ) × ((k < S .tracks) × (P k ≡ j))
-no-report-unused = unused.no-unused
-
--- Best over lists of report numbers, and best over functions, say the same.
-pub list-is-best : (S : Sheet) (p : List ℕ) → BestList S p → Best S (at p)
-list-is-best = same.list-best
-
-pub best-is-list : (S : Sheet) (p : List ℕ) → S .tracks ≤ length p → Best S (at p) → BestList S p
-best-is-list = same.best-list
 
 -- ---- the check's answer
 
@@ -179,11 +157,6 @@ zero-says n m s p u v e =
       served = λ q. all-are-served S (at p) (at q) b;
       used = no-report-unused S (at p) b (omega (arith, z .reports-few));
     }
-
--- Entries beyond those that n tracks and m reports need are neither read nor judged: lists that are long enough and the same up to
--- there have the same answer.
-pub beyond-is-not-read : (n m : ℕ) (s s′ p p′ u u′ v v′ : List ℕ) → Fits n m s p u v → Fits n m s′ p′ u′ v′ → Alike (n * m) (at s) (at s′) → Alike n (at p) (at p′) → Alike n (at u) (at u′) → Alike m (at v) (at v′) → checkAnswer n m s p u v ≡ checkAnswer n m s′ p′ u′ v′
-beyond-is-not-read = beyond.answer-same
 
 -- ---- the order of the answers
 

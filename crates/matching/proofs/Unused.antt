@@ -53,8 +53,9 @@ has? n j P =
     (λ w. inr (w .0, (w .1 .0, eqb-true (P (w .0)) j (not-false _ (w .1 .1)))))
     (each-or-one (λ k. not (eqb (P k) j)) n)
 
-pub no-unused : (S : Sheet) (P : ℕ → ℕ) → Best S P → S .reports ≤ none → (i j : ℕ) → i < S .tracks → P i ≡ none → j < S .reports → Admissible S i j → (k : ℕ) × ((k < S .tracks) × (P k ≡ j))
-no-unused S P b few i j li e lj a =
+-- A track that a best pairing leaves out has no admissible report that is unused: some track has it.
+pub no-report-unused : (S : Sheet) (P : ℕ → ℕ) → Best S P → S .reports ≤ none → (i j : ℕ) → i < S .tracks → P i ≡ none → j < S .reports → Admissible S i j → (k : ℕ) × ((k < S .tracks) × (P k ≡ j))
+no-report-unused S P b few i j li e lj a =
     ⊎-elim
     (λ unused. absurd (b .most (with i j P) (with-valid S P i j (b .valid) li lj a unused) (with-more S P i j (b .valid) li lj a unused e (λ z. omega arith))))
     (λ w. w)

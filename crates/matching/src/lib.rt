@@ -1,7 +1,7 @@
 // The referee: checks that a pairing of tracks with reports is best, by prices and discounts that show it. It knows of no engine.
 ghost use mathlib.Core.Path.{_≡_};
 ghost use mathlib.Core.Bool.{true, cond, not, _&&_};
-ghost use Prim.Native.Nat.{_+_, _*_, _≤_, _<_};
+ghost use Prim.Native.Nat.{_+_, _*_, _≤_, _<_, _^_};
 ghost use lib.Dec.{eqb};
 ghost use lib.ListN.{length};
 ghost use Rattle.laws.specs.Sums.{Sum};
@@ -66,9 +66,9 @@ fn stray(cell: u32) -> u32
 }
 
 // How many of the first k cells are out of range. A sum with no way out of its loop is what the compiler turns into vector
-// instructions. The bound of a million cells is only so that the count fits; 01's sheets have 10,000.
+// instructions.
 fn strays(sheet: &[u32], k: usize) -> u32
-    requires { ⌜ (k ≤ length (now sheet)) × (k ≤ 1000000) ⌝ }
+    requires { ⌜ (k ≤ length (now sheet)) × (k < 2 ^ 32) ⌝ }
     ensures { λ r. ⌜ r ≡ Sum k (λ i. cond (cellOk (at (now (sheet .entry)) i)) 0 1) ⌝ }
 {
     let mut count: u32 = 0;
@@ -109,7 +109,7 @@ pub fn index(x: u32) -> usize
 
 // Sums of scores and prices are taken in 64 bits.
 pub fn wide(x: u32) -> u64
-    ensures { λ r. ⌜ (r ≡ x) × (r < 4294967296) ⌝ }
+    ensures { λ r. ⌜ (r ≡ x) × (r < 2 ^ 32) ⌝ }
 {
     x as u64
 }
@@ -236,10 +236,10 @@ fn scores_ok(
     true
 }
 
-// The first n prices, or discounts, together. The bound of a thousand is only so that 64 bits hold the sum; 01 has 100.
+// The first n prices, or discounts, together. Each is below 2^32, so that 64 bits hold the sum.
 fn sum_of(n: usize, numbers: &[u32]) -> u64
-    requires { ⌜ (n ≤ 1000) × (n ≤ length (now numbers)) ⌝ }
-    ensures { λ r. ⌜ (r ≡ Sum n (at (now (numbers .entry)))) × (r ≤ n * 4294967296) ⌝ }
+    requires { ⌜ (n ≤ 2 ^ 31) × (n ≤ length (now numbers)) ⌝ }
+    ensures { λ r. ⌜ (r ≡ Sum n (at (now (numbers .entry)))) × (r ≤ n * 2 ^ 32) ⌝ }
 {
     let mut sum: u64 = 0;
     let mut i = 0;
@@ -251,9 +251,9 @@ fn sum_of(n: usize, numbers: &[u32]) -> u64
 }
 
 // What track i counts in the total: its score, or LEFT_OUT.
-fn cost(reports: usize, sheet: &[u32], pairing: &[u32], i: usize) -> u64
+fn counted(reports: usize, sheet: &[u32], pairing: &[u32], i: usize) -> u64
     requires { ⌜ (i < length (now pairing)) × ((i * reports + reports ≤ length (now sheet)) × (HasReport (at (now pairing)) i → at (now pairing) i < reports)) ⌝ }
-    ensures { λ r. ⌜ (r ≡ scoreOr leftOut (sheetOf 0 reports (now (sheet .entry))) (at (now (pairing .entry))) i) × (r < 4294967296) ⌝ }
+    ensures { λ r. ⌜ (r ≡ scoreOr leftOut (sheetOf 0 reports (now (sheet .entry))) (at (now (pairing .entry))) i) × (r < 2 ^ 32) ⌝ }
 {
     let x = pairing[i];
     if x == NONE {
@@ -265,13 +265,13 @@ fn cost(reports: usize, sheet: &[u32], pairing: &[u32], i: usize) -> u64
 
 // The total of a valid pairing.
 fn total_of(tracks: usize, reports: usize, sheet: &[u32], pairing: &[u32]) -> u64
-    requires { ⌜ (tracks ≤ 1000) × ((tracks * reports ≤ length (now sheet)) × ((tracks ≤ length (now pairing)) × (pairingOk (sheetOf tracks reports (now sheet)) (at (now pairing)) ≡ true))) ⌝ }
-    ensures { λ r. ⌜ (r ≡ total (sheetOf tracks reports (now (sheet .entry))) (at (now (pairing .entry)))) × (r ≤ tracks * 4294967296) ⌝ }
+    requires { ⌜ (tracks ≤ 2 ^ 31) × ((tracks * reports ≤ length (now sheet)) × ((tracks ≤ length (now pairing)) × (pairingOk (sheetOf tracks reports (now sheet)) (at (now pairing)) ≡ true))) ⌝ }
+    ensures { λ r. ⌜ (r ≡ total (sheetOf tracks reports (now (sheet .entry))) (at (now (pairing .entry)))) × (r ≤ tracks * 2 ^ 32) ⌝ }
 {
     let mut sum: u64 = 0;
     let mut i = 0;
     while i < tracks {
-        sum += cost(reports, sheet, pairing, i);
+        sum += counted(reports, sheet, pairing, i);
         i += 1;
     }
     sum

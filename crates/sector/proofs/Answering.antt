@@ -7,20 +7,21 @@ use native.Mathlib.Nat.{le-antisymm}
 use native.Mathlib.Omega.{arith}
 use borrow.Author.Tests.{leb-true}
 use Rattle.laws.proofs.Search.{first-upto}
-use Rattle.laws.proofs.Tests.{none-fails}
+use Rattle.laws.proofs.Tests.{holds-each}
+use Rattle.laws.specs.Tests.{holds}
 use Rattle.intake.specs.Refusals.{Input, faultOf, noRoom}
 use Rattle.intake.proofs.Readiness.{refused-by-fault, refused-by-room}
 use Rattle.sector.specs.declared.Counts.{Counts}
 use Rattle.sector.specs.declared.Served.{Served}
 use Rattle.sector.specs.declared.Served.the-variants.{Refused, Done}
 use Rattle.sector.specs.Steps.{Room}
-use Rattle.sector.specs.Serve.{Lent, rooms, allPass, roomFor, sectorRefusal, tally, ServedWith, servedBy, ServesSector}
+use Rattle.sector.specs.Serve.{Lent, rooms, roomFor, sectorRefusal, tally, ServedWith, servedBy, ServesSector}
 
 -- no list is too short
-pub room-facts : {reports table fates slots shown discounts prices : ℕ} → allPass (rooms reports table fates slots shown discounts prices) ≡ true → Room table reports fates slots shown discounts prices
-unfolding rooms allPass
+pub room-facts : {reports table fates slots shown discounts prices : ℕ} → holds (rooms reports table fates slots shown discounts prices) ≡ true → Room table reports fates slots shown discounts prices
+unfolding rooms
 room-facts {reports} {table} {fates} {slots} {shown} {discounts} {prices} e =
-    let w = none-fails (rooms reports table fates slots shown discounts prices) (le-antisymm (first-upto not (rooms reports table fates slots shown discounts prices)) (leb-true _ _ e)) in
+    let w = holds-each (rooms reports table fates slots shown discounts prices) e in
     record {
       for-fates = leb-true _ _ (w .0);
       for-slots = leb-true _ _ (w .1 .0);

@@ -1,11 +1,12 @@
 -- What a sector call answers, and what it leaves in all that was lent (01, 'After pairing' and 'Numbers a sector call gives back').
 use Prim.Native.Nat.{ℕ, zero, suc}
 use mathlib.Core.Path.{_≡_}
-use mathlib.Core.Bool.{Bool, not}
+use mathlib.Core.Bool.{Bool}
 use mathlib.Core.List.{List, [], _∷_, _++_}
 use lib.Dec.{leb}
 use lib.ListN.{length, drop}
-use Rattle.laws.specs.Lists.{at, firstIndex}
+use Rattle.laws.specs.Lists.{at}
+use Rattle.laws.specs.Tests.{holds}
 use Rattle.numbers.specs.Sectors.{nextSector}
 use Rattle.records.specs.declared.Site.{Site}
 use Rattle.matching.specs.Pairing.{scoreSum}
@@ -41,13 +42,9 @@ unfoldable pub rooms : (reports table : ℕ) (fates slots shown discounts prices
 rooms reports table fates slots shown discounts prices =
     leb reports fates ∷ leb reports slots ∷ leb reports shown ∷ leb reports discounts ∷ leb table prices ∷ []
 
--- none of them fails
-unfoldable pub allPass : List Bool → Bool
-allPass tests = leb (length tests) (firstIndex not tests)
-
 unfoldable pub roomFor : Input → Lent → Bool
 roomFor i l =
-    allPass
+    holds
     (rooms (reportsOf i) (length (i .table)) (length (l .fates)) (length (l .slots)) (length (l .shown)) (length (l .discounts)) (length (l .prices)))
 
 -- the number that the call gives back, or 0

@@ -7,10 +7,12 @@ ghost use Rattle.numbers.specs.Sectors.{nextSector};
 ghost use Rattle.intake.specs.Refusals.{input, mostDue, mostBatch, dueSlots, Ready};
 ghost use Rattle.sector.specs.Steps.{Pairable, PairedUp, PairedOff, Room};
 ghost use Rattle.sector.specs.Settled.{SettledAs};
-ghost use Rattle.sector.specs.Serve.{lent, rooms, allPass, tally, ServedWith, ServesSector};
+ghost use Rattle.sector.specs.Serve.{lent, rooms, tally, ServedWith, ServesSector};
 ghost use Rattle.laws.specs.Lists.{at};
+ghost use Rattle.laws.specs.Tests.{holds};
 ghost use Rattle.matching.specs.Pairing.{scoreEnd, sheetOf, scoreOr, scoreSum};
 ghost use Rattle.sector.specs.Sum.{Summable};
+use matching::index;
 use records::Site;
 use walk::Missed;
 
@@ -30,12 +32,6 @@ pub struct Counts {
 pub enum Served {
     Refused(u8),
     Done(Counts),
-}
-
-fn index(x: u32) -> usize
-    ensures { λ r. ⌜ r ≡ x ⌝ }
-{
-    x as usize
 }
 
 // The score of a due track's pair, or 0 where it has none.
@@ -260,7 +256,7 @@ fn has_room(
     discounts: usize,
     prices: usize,
 ) -> bool
-    ensures { λ r. ⌜ r ≡ allPass (rooms reports table fates slots shown discounts prices) ⌝ }
+    ensures { λ r. ⌜ r ≡ holds (rooms reports table fates slots shown discounts prices) ⌝ }
 {
     let rooms = [
         reports <= fates,

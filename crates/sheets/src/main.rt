@@ -1,19 +1,22 @@
 // Runs the pairing call and the check on some hundred fixed sheets: every size up to 5 by 5 against a search of all pairings, and sheets
 // of 100 by 100. A line a family: sheets, accepted by the check, as good as the search of all, pairs, sum of scores.
 use libc::STDOUT_FILENO;
+use matching::ACCEPTED;
 use matching::LEFT_OUT;
+use matching::MOST_REPORTS;
+use matching::MOST_TRACKS;
 use matching::NONE;
 use matching::SCORE_END;
+use matching::index;
+use matching::wide;
 ghost use mathlib.Core.Path.{_≡_};
-ghost use Prim.Native.Nat.{_+_, _-_, _*_, _≤_, _<_};
+ghost use Prim.Native.Nat.{_+_, _-_, _*_, _≤_, _<_, _^_};
 ghost use lib.ListN.{length};
 ghost use Rattle.matching.specs.Pairing.{mostTracks, mostReports};
 
 const SIZES: usize = 6;
 
-const WIDE: usize = 100;
-
-const CELLS: usize = 10000;
+const CELLS: usize = MOST_TRACKS * MOST_REPORTS;
 
 const NUMBERS: u64 = 2147483648;
 
@@ -33,15 +36,21 @@ struct Pairs {
 }
 
 fn room() -> [u32; CELLS]
-    ensures { λ r. ⌜ 10000 ≡ length r ⌝ }
+    ensures { λ r. ⌜ mostTracks * mostReports ≡ length r ⌝ }
 {
     [0; CELLS]
 }
 
-fn list() -> [u32; WIDE]
-    ensures { λ r. ⌜ 100 ≡ length r ⌝ }
+fn track_list() -> [u32; MOST_TRACKS]
+    ensures { λ r. ⌜ mostTracks ≡ length r ⌝ }
 {
-    [0; WIDE]
+    [0; MOST_TRACKS]
+}
+
+fn report_list() -> [u32; MOST_REPORTS]
+    ensures { λ r. ⌜ mostReports ≡ length r ⌝ }
+{
+    [0; MOST_REPORTS]
 }
 
 // The next number of a fixed sequence.
@@ -65,7 +74,7 @@ fn cell_of(family: u32, row: usize, column: usize, x: u64) -> u32 {
         0 => score % 3,
         1 => every_other(row, score),
         2 => one_in_eight(x, score),
-        3 => ((row % WIDE + 1) * (column % WIDE + 1)) as u32,
+        3 => ((row % MOST_TRACKS + 1) * (column % MOST_REPORTS + 1)) as u32,
         _ => score,
     }
 }
@@ -93,16 +102,6 @@ fn least(a: u64, b: u64) -> u64
     if a < b { a } else { b }
 }
 
-fn wide(x: u32) -> u64
-    ensures { λ r. ⌜ r < 4294967296 ⌝ }
-{
-    x as u64
-}
-
-fn index(x: u32) -> usize {
-    x as usize
-}
-
 // The bit of a report among those that are taken.
 fn bit(j: usize) -> u32 {
     match j {
@@ -125,7 +124,7 @@ fn barred(cell: u32, taken: u32, j: usize) -> bool {
 // The least total of all pairings of the tracks from i on, where track i takes a report from j on, or is left out.
 fn least_total(sheet: &[u32], tracks: usize, reports: usize, i: usize, j: usize, taken: u32) -> u64
     requires { ⌜ (tracks ≤ mostTracks) × ((reports ≤ mostReports) × ((tracks * reports ≤ length (now sheet)) × ((i ≤ tracks) × (j ≤ reports)))) ⌝ }
-    ensures { λ r. ⌜ r ≤ (tracks - i) * 4294967296 ⌝ }
+    ensures { λ r. ⌜ r ≤ (tracks - i) * 2 ^ 32 ⌝ }
 {
     if i >= tracks {
         return 0;
@@ -149,24 +148,32 @@ fn score_at(sheet: &[u32], at: usize) -> u64 {
     if at < sheet.len() { wide(sheet[at]) } else { 0 }
 }
 
+// One track more: its pair, if it has one.
+fn with_track(sheet: &[u32], reports: usize, track: usize, report: usize, before: Pairs) -> Pairs
+    requires { ⌜ (track ≤ mostTracks) × (reports ≤ mostReports) ⌝ }
+{
+    if report >= reports {
+        return before;
+    }
+    Pairs {
+        pairs: std::num::wrapping_add_u64(before.pairs, 1),
+        scores: std::num::wrapping_add_u64(before.scores, score_at(sheet, track * reports + report)),
+    }
+}
+
 fn outcome(sheet: &[u32], reports: usize, pairing: &[u32]) -> Pairs
     requires { ⌜ (length (now pairing) ≤ mostTracks) × (reports ≤ mostReports) ⌝ }
 {
-    let mut pairs: u64 = 0;
-    let mut scores: u64 = 0;
-    let mut i: usize = 0;
-    while i < pairing.len() {
-        let report = index(pairing[i]);
-        if report < reports {
-            pairs = std::num::wrapping_add_u64(pairs, 1);
-            scores = std::num::wrapping_add_u64(scores, score_at(sheet, i * reports + report));
-        }
-        i += 1;
+    let mut found = Pairs {
+        pairs: 0,
+        scores: 0,
+    };
+    let mut track: usize = 0;
+    while track < pairing.len() {
+        found = with_track(sheet, reports, track, index(pairing[track]), found);
+        track += 1;
     }
-    Pairs {
-        pairs: pairs,
-        scores: scores,
-    }
+    found
 }
 
 fn one_if(yes: bool) -> u64 {
@@ -183,7 +190,7 @@ fn judge(
     small: bool,
     before: Tally,
 ) -> Tally
-    requires { ⌜ (tracks ≤ mostTracks) × ((reports ≤ mostReports) × ((10000 ≤ length (now cells)) × (100 ≤ length (now pairing)))) ⌝ }
+    requires { ⌜ (tracks ≤ mostTracks) × ((reports ≤ mostReports) × ((mostTracks * mostReports ≤ length (now cells)) × (mostTracks ≤ length (now pairing)))) ⌝ }
 {
     let found = outcome(cells, reports, &pairing[..tracks]);
     let pairs = found.pairs;
@@ -196,7 +203,7 @@ fn judge(
     }
     Tally {
         sheets: std::num::wrapping_add_u64(before.sheets, 1),
-        accepted: std::num::wrapping_add_u64(before.accepted, one_if(verdict == 0)),
+        accepted: std::num::wrapping_add_u64(before.accepted, one_if(verdict == ACCEPTED)),
         agreed: std::num::wrapping_add_u64(before.agreed, agreed),
         pairs: std::num::wrapping_add_u64(before.pairs, pairs),
         scores: std::num::wrapping_add_u64(before.scores, scores),
@@ -216,7 +223,7 @@ fn settle(
     prices: &mut [u32],
     discounts: &mut [u32],
 ) -> Tally
-    requires { ⌜ (tracks ≤ mostTracks) × ((reports ≤ mostReports) × ((10000 ≤ length (now cells)) × (100 ≤ length (now pairing)))) ⌝ }
+    requires { ⌜ (tracks ≤ mostTracks) × ((reports ≤ mostReports) × ((mostTracks * mostReports ≤ length (now cells)) × (mostTracks ≤ length (now pairing)))) ⌝ }
 {
     fill_sheet(family, reports, seed, cells);
     engine::pair_sheet(tracks, reports, cells, pairing, prices, discounts);
@@ -228,9 +235,9 @@ fn run(family: u32, tracks: usize, reports: usize, seed: u64, small: bool, befor
     requires { ⌜ (tracks ≤ mostTracks) × (reports ≤ mostReports) ⌝ }
 {
     let mut cells = room();
-    let mut pairing = list();
-    let mut prices = list();
-    let mut discounts = list();
+    let mut pairing = track_list();
+    let mut prices = track_list();
+    let mut discounts = report_list();
     settle(
         family,
         tracks,
@@ -270,7 +277,7 @@ fn wide_sheets(family: u32) -> Tally {
     let mut tally = nothing();
     let mut k: usize = 0;
     while k < 3 {
-        tally = run(family, WIDE, WIDE, k as u64, false, tally);
+        tally = run(family, MOST_TRACKS, MOST_REPORTS, k as u64, false, tally);
         k += 1;
     }
     tally

@@ -1,4 +1,4 @@
-use Prim.Native.Nat.{_*_, _≤_, _-_}
+use Prim.Native.Nat.{_*_, _≤_, _-_, _^_}
 use mathlib.Core.Path.{_≡_}
 use native.Mathlib.Omega.{arith}
 use borrow.Author.Needs.{needs}
@@ -9,7 +9,7 @@ use Rattle.matching.proofs.sum_of.Statement.{statement}
 use Rattle.matching.proofs.sum_of.Tie as tie
 
 abbrev Inv-loop : tie.InvT-loop
-Inv-loop n numbers sum₀ i₀ sum i = (i ≤ n) × ((sum ≡ Sum i (at numbers)) × (sum ≤ i * 4294967296))
+Inv-loop n numbers sum₀ i₀ sum i = (i ≤ n) × ((sum ≡ Sum i (at numbers)) × (sum ≤ i * 2 ^ 32))
 
 abbrev μ-loop : tie.MeasureT-loop
 μ-loop n numbers sum₀ i₀ sum i = n - i

@@ -1,7 +1,8 @@
 use lib.Dec.{leb}
-use mathlib.Core.Path.{ap}
-use Rattle.sector.specs.Serve.{rooms, allPass}
+use mathlib.Core.Path.{ap, _∙_}
+use Rattle.sector.specs.Serve.{rooms}
 use borrow.Author.Needs.{needs}
+use Rattle.laws.proofs.Tests.{holds-first}
 use Rattle.sector.proofs.has_room.Statement.{statement}
 use Rattle.sector.proofs.has_room.Tie as tie
 
@@ -12,8 +13,8 @@ first-broken-requires : tie.Need-first-broken-requires
 first-broken-requires c κs = search needs
 
 returns : tie.Need-returns
-unfolding rooms allPass
-returns c = ap (leb 5) (c .first-broken .ensures)
+unfolding rooms
+returns c = ap (leb 5) (c .first-broken .ensures) ∙ holds-first _
 
 pub has-room-spec : {M : Type 1} → statement M
 has-room-spec = tie.close (tie.spec slice-aggregate-first-broken first-broken-requires returns)

@@ -1,8 +1,8 @@
 use borrow.Author.Needs.{needs}
 use native.Mathlib.Omega.{arith}
 use borrow.Author.Tests.{ne-eqb, eq-eqb}
-use Rattle.matching.proofs.cost.Statement.{statement}
-use Rattle.matching.proofs.cost.Tie as tie
+use Rattle.matching.proofs.counted.Statement.{statement}
+use Rattle.matching.proofs.counted.Tie as tie
 
 mul-x : tie.Need-mul-x
 mul-x c = search needs
@@ -37,8 +37,8 @@ wide-requires-2 c κs = search needs
 returns-2 : tie.Need-returns-2
 returns-2 c = (rw (ne-eqb _ _ (c .before .before .before .if1 .left), c .wide2 .ensures .0, c .before .before .index .ensures), c .wide2 .ensures .1)
 
-pub cost-spec : {M : Type 1} → statement M
-cost-spec =
+pub counted-spec : {M : Type 1} → statement M
+counted-spec =
     tie.close
     (tie.spec
     mul-x
