@@ -3,7 +3,8 @@ use Rattle.laws.proofs.Sums.{row-in}
 use lib.ListN.{length}
 use borrow.Author.Needs.{needs}
 use native.Mathlib.Omega.{arith}
-use Prim.Native.Nat.{ℕ, _+_, _-_, _*_, _<_}
+use Prim.Native.Nat.{ℕ, suc, _+_, _-_, _*_, _<_}
+use Rattle.matching.specs.Pairing.{mostReports}
 use borrow.Fn.Kinds.{In}
 use borrow.Fn.PlainCycle.{Measures, is, falls, and}
 use Rattle.sheets.proofs.least_total.Reads as least-total
@@ -12,12 +13,12 @@ use Rattle.sheets.proofs.+least_total.Lts-least_total as least-total-lt
 use Rattle.sheets.proofs.barred.Reads as barred-reads
 use Rattle.sheets.proofs.bit.Reads as bit-reads
 use Rattle.sheets.proofs.least.Reads as least-reads
-use Rattle.sheets.proofs.wide.Reads as wide-reads
+use Rattle.matching.proofs.wide.Reads as wide-reads
 use Rattle.sheets.proofs.+least_total.{statement}
 use Rattle.sheets.proofs.+least_total.Tie.{close}
 
 abbrev μ-least-total : Measures 1 least-total-kinds.ps ℕ
-μ-least-total κs a = (a .1 .0 - a .1 .1 .1 .0) * 101 + (a .1 .1 .0 - a .1 .1 .1 .1 .0)
+μ-least-total κs a = (a .1 .0 - a .1 .1 .1 .0) * suc mostReports + (a .1 .1 .0 - a .1 .1 .1 .1 .0)
 
 abbrev least-total-at : ℕ → In 1 least-total-kinds.ps
 least-total-at t =
@@ -46,8 +47,8 @@ pub +least-total-spec : {M : Type 1} → statement M
     (λ c κs. search needs)
     (λ c. omega arith)
     (λ c κs. (omega (arith, c .before .before .before .before .pre .0), (c .before .before .before .before .pre .1 .0, (c .before .before .before .before .pre .1 .1 .0, (c .before .before .before .before .pre .1 .1 .1 .0, (omega arith, omega arith))))))
-    (λ c. omega (arith, c .before .wide .ensures, c .least-total .ensures))
-    (λ c. omega (arith, c .before .wide .ensures, c .least-total .ensures))
+    (λ c. omega (arith, c .before .wide .ensures .1, c .least-total .ensures))
+    (λ c. omega (arith, c .before .wide .ensures .1, c .least-total .ensures))
     (λ c. omega arith)
     (λ c κs. (omega (arith, c .before .before .before .pre .0), (c .before .before .before .pre .1 .0, (c .before .before .before .pre .1 .1 .0, (c .before .before .before .pre .1 .1 .1 .0, (omega arith, omega arith))))))
     (λ c. omega (arith, row-in (c .before .before .before .before .args .i) (c .before .before .before .before .args .tracks) (c .before .before .before .before .args .reports) (length (c .before .before .before .before .args .sheet .now)) (omega arith) (c .before .before .before .before .pre .1 .1 .1 .0)))
@@ -60,6 +61,6 @@ pub +least-total-spec : {M : Type 1} → statement M
     (λ c. omega arith)
     (λ c κs. search needs)
     (λ c κs. (omega (arith, c .before .before .before .before .before .before .before .before .before .pre .0), (c .before .before .before .before .before .before .before .before .before .pre .1 .0, (c .before .before .before .before .before .before .before .before .before .pre .1 .1 .0, (c .before .before .before .before .before .before .before .before .before .pre .1 .1 .1 .0, (omega arith, omega arith))))))
-    (λ c. omega (arith, c .before .before .wide2 .ensures, c .least-total3 .ensures))
+    (λ c. omega (arith, c .before .before .wide2 .ensures .1, c .least-total3 .ensures))
     (λ c κs. search needs)
     (λ c. omega (arith, c .least .ensures .0, c .before .before .before .before .before .before .before .least-total2 .ensures))
