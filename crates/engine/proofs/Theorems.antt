@@ -5,9 +5,9 @@ use mathlib.Core.List.{List}
 use native.Mathlib.Omega.{arith}
 use lib.ListN.{length, drop, length-drop}
 use Rattle.laws.specs.Lists.{at}
-use Rattle.matching.specs.Pairing.{Best, sheetOf}
+use Rattle.matching.specs.Pairing.{Agree, Best, sheetOf}
 use Rattle.matching.specs.Answer.{Fits, checkAnswer}
-use Rattle.matching.proofs.Theorems.{Agree, AcceptedNumbers, zero-certificate, zero-is-best, best-is-zero, best-agree, zero-says}
+use Rattle.matching.proofs.Theorems.{AcceptedNumbers, zero-certificate, zero-is-best, best-is-zero, best-agree, zero-says}
 use Rattle.engine.specs.declared.Paired.{Paired}
 use Rattle.engine.specs.Call.{pairingRefusal, SheetPaired, PairsSheet}
 

@@ -1,5 +1,5 @@
 -- What the referee's word is worth. Each theorem with its plain meaning; the definitions are those of specs/.
-use Prim.Native.Nat.{ℕ, _+_, _-_, _*_, _≤_, _<_}
+use Prim.Native.Nat.{ℕ, _+_, _*_, _≤_, _<_}
 use mathlib.Core.Path.{_≡_, refl, sym, _∙_}
 use mathlib.Core.Bool.{Bool, true, false, not, cond, _&&_}
 use mathlib.Core.List.{List, [], _∷_}
@@ -10,7 +10,7 @@ use Rattle.laws.specs.Lists.{at, firstIndex}
 use Rattle.laws.specs.Tests.{refuse}
 use borrow.Author.Tests.{eq-eqb, eqb-true}
 use Rattle.laws.proofs.Tests.{refuse-none}
-use Rattle.matching.specs.Pairing.{none, scoreEnd, leftOut, mostTracks, Sheet, Admissible, InRange, HasReport, ValidPairing, pairs, misses, scoreSum, total, Best, Certificate, Alike, sheetOf, BestList}
+use Rattle.matching.specs.Pairing.{none, Sheet, Admissible, InRange, HasReport, ValidPairing, pairs, misses, scoreSum, Best, Agree, Certificate, sheetOf, BestList}
 use Rattle.matching.specs.Answer.{Sizes, Fits, sizesOk, cellsOk, pairingOk, numbersOk, scoresOk, totalsOk, sheetRefusal, checkAnswer}
 use Rattle.matching.proofs.Duality as duality
 use Rattle.matching.proofs.Facts as facts
@@ -43,11 +43,6 @@ best-is-accepted S P Q u v c b =
 -- ---- best pairings
 
 -- All best pairings of a sheet have the same number of pairs, the same sum of scores and the same total.
-pub record Agree (S : Sheet) (P Q : ℕ → ℕ) : Type 0 where
-  pub same-pairs : pairs S P ≡ pairs S Q
-  pub same-scores : scoreSum S P ≡ scoreSum S Q
-  pub same-total : total S P ≡ total S Q
-
 pub best-agree : (S : Sheet) (P Q : ℕ → ℕ) → Best S P → Best S Q → Agree S P Q
 best-agree S P Q b c =
     let e : pairs S P ≡ pairs S Q = omega (arith, duality.at-most (b .most Q (c .valid)), duality.at-most (c .most P (b .valid))) in
@@ -161,8 +156,8 @@ zero-says n m s p u v e =
 -- ---- the order of the answers
 
 -- What is tested, in 01's order: the numbers 21 to 26.
-unfoldable pub tested : (n m : ℕ) (s p u v : List ℕ) → List Bool
-tested n m s p u v =
+unfoldable pub testsOf : (n m : ℕ) (s p u v : List ℕ) → List Bool
+testsOf n m s p u v =
     let S : Sheet = sheetOf n m s in
     sizesOk n m (length s) (length p) (length u) (length v)
     ∷ cellsOk (n * m) s
@@ -183,6 +178,6 @@ in-order true true true true true false = refl
 in-order true true true true true true = refl
 
 -- The answer is 21 and the place of the first test that fails, or 0 where none does.
-pub answers-in-order : (n m : ℕ) (s p u v : List ℕ) → checkAnswer n m s p u v ≡ cond (ltb (firstIndex not (tested n m s p u v)) 6) (21 + firstIndex not (tested n m s p u v)) 0
-unfolding checkAnswer sheetRefusal tested
+pub answers-in-order : (n m : ℕ) (s p u v : List ℕ) → checkAnswer n m s p u v ≡ cond (ltb (firstIndex not (testsOf n m s p u v)) 6) (21 + firstIndex not (testsOf n m s p u v)) 0
+unfolding checkAnswer sheetRefusal testsOf
 answers-in-order n m s p u v = in-order _ _ _ _ _ _

@@ -81,6 +81,12 @@ pub record Best (S : Sheet) (P : ℕ → ℕ) : Type 0 where
   pub most : (Q : ℕ → ℕ) → ValidPairing S Q → pairs S P < pairs S Q → ⊥
   pub least : (Q : ℕ → ℕ) → ValidPairing S Q → pairs S Q ≡ pairs S P → scoreSum S Q < scoreSum S P → ⊥
 
+-- as many pairs, the same sum of scores and so the same total, as all best pairings of a sheet have
+pub record Agree (S : Sheet) (P Q : ℕ → ℕ) : Type 0 where
+  pub same-pairs : pairs S P ≡ pairs S Q
+  pub same-scores : scoreSum S P ≡ scoreSum S Q
+  pub same-total : total S P ≡ total S Q
+
 -- ---- what shows that a pairing is best
 
 -- a price a track and a discount a report, each in range; the price less the discount never exceeds the score of an admissible pair

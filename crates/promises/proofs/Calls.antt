@@ -78,7 +78,6 @@ pub pairs-and-sum-agree : (i : Input) (l l₁ l₂ : Lent) (n m : Counts) (s : S
 pairs-and-sum-agree i l l₁ l₂ n m s t =
     let w = best-agree (sectorSheet i) (at (s .chosen .pairing)) (at (t .chosen .pairing)) (best-of-the-sector i (s .chosen) (s .choice)) (best-of-the-sector i (t .chosen) (t .choice)) in
     record {
-      same-pairs = w .same-pairs;
-      same-scores = w .same-scores;
+      agree = w;
       same-counted = rw (s .counted, t .counted) (score-counted i (s .chosen .pairing) ∙ w .same-scores ∙ sym (score-counted i (t .chosen .pairing)));
     }

@@ -178,7 +178,7 @@ ties-count-alike i l l₁ l₂ n m s t =
     let a : Accounted i (s .chosen) l₁ n = counts i l l₁ n s in
     let b : Accounted i (t .chosen) l₂ m = counts i l l₂ m t in
     let w : SameScore i (s .chosen) (t .chosen) n m = pairs-and-sum-agree i l l₁ l₂ n m s t in
-    let e : n .paired ≡ m .paired = a .as-paired ∙ w .same-pairs ∙ sym (b .as-paired) in
+    let e : n .paired ≡ m .paired = a .as-paired ∙ w .agree .same-pairs ∙ sym (b .as-paired) in
     record {
       paired = e;
       missed = omega (arith, a .due-tracks, b .due-tracks);

@@ -11,7 +11,7 @@ use Rattle.records.specs.declared.Track.{Track}
 use Rattle.records.specs.Fields.{held}
 use Rattle.records.specs.Bytes.{markAt, trackOf, bytesOf, reportOf}
 use Rattle.settling.specs.Settle.{updatedOf, startedOf}
-use Rattle.matching.specs.Pairing.{pairs, scoreSum}
+use Rattle.matching.specs.Pairing.{pairs, scoreSum, Agree}
 use Rattle.engine.specs.declared.Paired.{Paired}
 use Rattle.engine.specs.declared.Paired.the-variants as paired-call
 use Rattle.intake.specs.Refusals.{Input, dueSlots}
@@ -153,8 +153,7 @@ pub record RefusedExactlyWhen (i : Input) (l l′ : Lent) (answer : Served) (k :
 
 -- two choices have as many pairs and the same sum of pair scores, also as counted
 pub record SameScore (i : Input) (c d : Chosen) (n m : Counts) : Type 0 where
-  pub same-pairs : pairs (sectorSheet i) (at (c .pairing)) ≡ pairs (sectorSheet i) (at (d .pairing))
-  pub same-scores : scoreSum (sectorSheet i) (at (c .pairing)) ≡ scoreSum (sectorSheet i) (at (d .pairing))
+  pub agree : Agree (sectorSheet i) (at (c .pairing)) (at (d .pairing))
   pub same-counted : n .«score_sum» ≡ m .«score_sum»
 
 -- two counts that differ at most in what became of the tracks and of the reports that are left out

@@ -1,12 +1,10 @@
 -- The answer of the sector call, by the way that the call went.
 use Prim.Native.Nat.{ℕ, zero, suc}
 use mathlib.Core.Path.{_≡_, refl, sym, ap, _∙_}
-use mathlib.Core.Bool.{Bool, true, false, not, cond}
+use mathlib.Core.Bool.{Bool, true, false, cond}
 use mathlib.Core.List.{[]}
-use native.Mathlib.Nat.{le-antisymm}
 use native.Mathlib.Omega.{arith}
 use borrow.Author.Tests.{leb-true}
-use Rattle.laws.proofs.Search.{first-upto}
 use Rattle.laws.proofs.Tests.{holds-each}
 use Rattle.laws.specs.Tests.{holds}
 use Rattle.intake.specs.Refusals.{Input, faultOf, noRoom}

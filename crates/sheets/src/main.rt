@@ -157,7 +157,10 @@ fn with_track(sheet: &[u32], reports: usize, track: usize, report: usize, before
     }
     Pairs {
         pairs: std::num::wrapping_add_u64(before.pairs, 1),
-        scores: std::num::wrapping_add_u64(before.scores, score_at(sheet, track * reports + report)),
+        scores: std::num::wrapping_add_u64(
+            before.scores,
+            score_at(sheet, track * reports + report),
+        ),
     }
 }
 
