@@ -1,4 +1,5 @@
--- What the referee's word is worth. Each theorem with its plain meaning; the definitions are those of specs/.
+-- What the referee's word is worth. Each theorem with its plain meaning; the definitions are those of specs/. In proofs s, p, u, v are a
+-- sheet's cells, a pairing, prices and discounts; S and P the sheet and the pairing that they stand for.
 use Prim.Native.Nat.{ℕ, _+_, _*_, _≤_, _<_}
 use mathlib.Core.Path.{_≡_, refl, sym, _∙_}
 use mathlib.Core.Bool.{Bool, true, false, not, cond, _&&_}

@@ -125,18 +125,19 @@ pub record Accounted (i : Input) (c : Chosen) (l′ : Lent) (counts : Counts) : 
 
 -- the first entries of what a pairing call wrote, as many as the sector has due tracks and reports
 abbrev pub firstOf : Input → (pairing prices discounts : List ℕ) → Chosen
-firstOf i p u v = record { pairing = take (tracksOf i) p; prices = take (tracksOf i) u; discounts = take (reportsOf i) v }
+firstOf i pairing prices discounts =
+    record { pairing = take (tracksOf i) pairing; prices = take (tracksOf i) prices; discounts = take (reportsOf i) discounts }
 
 -- room in a pairing call's lists for a sector's pairing, prices and discounts
-pub record RoomToPair (i : Input) (p u v : List ℕ) : Type 0 where
-  pub for-pairing : tracksOf i ≤ length p
-  pub for-prices : tracksOf i ≤ length u
-  pub for-discounts : reportsOf i ≤ length v
+pub record RoomToPair (i : Input) (pairing prices discounts : List ℕ) : Type 0 where
+  pub for-pairing : tracksOf i ≤ length pairing
+  pub for-prices : tracksOf i ≤ length prices
+  pub for-discounts : reportsOf i ≤ length discounts
 
 -- the pairing call is done, and a sector call may choose what it wrote
-pub record Together (i : Input) (p′ u′ v′ : List ℕ) (answer : Paired) : Type 0 where
+pub record Together (i : Input) (pairing′ prices′ discounts′ : List ℕ) (answer : Paired) : Type 0 where
   pub done : answer ≡ paired-call.Done
-  pub choice : Choice i (firstOf i p′ u′ v′)
+  pub choice : Choice i (firstOf i pairing′ prices′ discounts′)
 
 -- a sector call and a sheet call are refused by the same numbers of 1 to 8
 pub record RefusedAlike (answer : Served) (sheeted : Sheeted) (k : ℕ) : Type 0 where
@@ -152,13 +153,13 @@ pub record RefusedExactlyWhen (i : Input) (l l′ : Lent) (answer : Served) (k :
   pub kept : answer ≡ Refused k → l′ ≡ l
 
 -- two choices have as many pairs and the same sum of pair scores, also as counted
-pub record SameScore (i : Input) (c d : Chosen) (n m : Counts) : Type 0 where
-  pub agree : Agree (sectorSheet i) (at (c .pairing)) (at (d .pairing))
-  pub same-counted : n .«score_sum» ≡ m .«score_sum»
+pub record SameScore (i : Input) (c c′ : Chosen) (counts counts′ : Counts) : Type 0 where
+  pub agree : Agree (sectorSheet i) (at (c .pairing)) (at (c′ .pairing))
+  pub same-counted : counts .«score_sum» ≡ counts′ .«score_sum»
 
 -- two counts that differ at most in what became of the tracks and of the reports that are left out
-pub record CountedAlike (n m : Counts) : Type 0 where
-  pub paired : n .paired ≡ m .paired
-  pub missed : n .coasted + n .dropped ≡ m .coasted + m .dropped
-  pub unpaired : n .started + n .weak + n .full ≡ m .started + m .weak + m .full
-  pub scored : n .«score_sum» ≡ m .«score_sum»
+pub record CountedAlike (counts counts′ : Counts) : Type 0 where
+  pub paired : counts .paired ≡ counts′ .paired
+  pub missed : counts .coasted + counts .dropped ≡ counts′ .coasted + counts′ .dropped
+  pub unpaired : counts .started + counts .weak + counts .full ≡ counts′ .started + counts′ .weak + counts′ .full
+  pub scored : counts .«score_sum» ≡ counts′ .«score_sum»
