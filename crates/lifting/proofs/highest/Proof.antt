@@ -19,14 +19,14 @@ abbrev μ-loop : tie.MeasureT-loop
 loop-holds : tie.Need-loop-holds Inv-loop μ-loop
 loop-holds c = (search needs, (omega arith, below-none _))
 
-mul-high : tie.Need-mul-high Inv-loop μ-loop
-mul-high c = search needs
+mul-greater : tie.Need-mul-greater Inv-loop μ-loop
+mul-greater c = search needs
 
-shared-slice-read-high : tie.Need-shared-slice-read-high Inv-loop μ-loop
-shared-slice-read-high c = search needs
+shared-slice-read-greater : tie.Need-shared-slice-read-greater Inv-loop μ-loop
+shared-slice-read-greater c = search needs
 
-high-requires : tie.Need-high-requires Inv-loop μ-loop
-high-requires c κs = (omega (arith, c .before .before .before .before .pre (c .before .before .loop .j) (c .before .loop-test .taken)), omega (arith, c .before .before .loop .inv .1 .0))
+greater-requires : tie.Need-greater-requires Inv-loop μ-loop
+greater-requires c κs = (omega (arith, c .before .before .before .before .pre (c .before .before .loop .j) (c .before .loop-test .taken)), omega (arith, c .before .before .loop .inv .1 .0))
 
 add-j : tie.Need-add-j Inv-loop μ-loop
 add-j c = search needs
@@ -37,7 +37,7 @@ loop-less c = search needs
 loop-again : tie.Need-loop-again Inv-loop μ-loop
 loop-again c =
     let p = c .before .before .before .loop in
-    let l = c .high .ensures in (
+    let l = c .greater .ensures in (
       search needs,
       (
         ⊎-elim (λ g. omega (arith, l .1 .1 .1 g, c .before .before .before .before .before .pre (p .j) (c .before .before .loop-test .taken))) (λ g. omega (arith, l .1 .1 .0 g, p .inv .1 .0)) (le-or-lt (p .best) (at (c .before .before .before .before .before .args .a .now) (p .j))),
@@ -55,9 +55,9 @@ highest-spec =
     Inv-loop
     μ-loop
     loop-holds
-    mul-high
-    shared-slice-read-high
-    high-requires
+    mul-greater
+    shared-slice-read-greater
+    greater-requires
     add-j
     loop-less
     loop-again
