@@ -13,7 +13,7 @@ use Rattle.paths.specs.State.{cell, Shape, Own, Match, Good, Done, Searchable, 
 use Rattle.engine.specs.State.{Fresh, Contest, Claimed, Visit}
 use Rattle.queue.proofs.Rise.{good-len}
 use Rattle.laws.proofs.Stores.{same-or}
-use Rattle.paths.proofs.Swap.{refit, shape′, stays, vacated, shape₁}
+use Rattle.paths.proofs.Swap.{free-zero, free-vacant, refit, shape′, stays, vacated, shape₁}
 use Rattle.paths.proofs.Rows.{row, row-length, row-at, row-end}
 
 module _ (cells : List ℕ) (m n track : ℕ) (pairing owner prices discounts : List ℕ) (G : Good cells m n pairing owner prices discounts) (track-in : track < n) (unpaired : at pairing track ≡ none)
@@ -50,20 +50,14 @@ module _ (cells : List ℕ) (m n track : ℕ) (pairing owner prices discounts : 
   }
 
   module _ (j : ℕ) (jm : j < m) (free : at owner j ≡ none) (low : score < leftOut) (eq : cell cells m track j ≡ score) where
-    discount-zero : at discounts j ≡ 0
-    discount-zero = ⊎-elim (λ a. a .1) (λ o. absurd (omega (arith, o .there, G .shape .tracks-few))) (G .matched .owned j jm (λ e. omega (arith, G .shape .reports-few)))
-
     vacant : Match cells m n pairing owner prices₁ discounts j
-    vacant = record {
-      owned = λ k h d. priced .matched .owned k h (λ e. omega (arith, G .shape .reports-few));
-      paired = λ i h. ⊎-elim inl (λ a. inr (a .0, ((λ e. omega (arith, sym (a .1 .1) ∙ ap (at owner) e ∙ free, G .shape .tracks-few)), a .1 .1))) (G .matched .paired i h);
-    }
+    vacant = free-vacant (priced .shape) (priced .matched) j free
 
     fits : cell cells m track j < far
     fits = omega arith
 
     tight : at prices₁ track ≡ cell cells m track j + at discounts j
-    tight = omega (arith, price₁-track, discount-zero)
+    tight = omega (arith, price₁-track, free-zero G j jm free)
 
     pub given : Good cells m n (set pairing track j) (set owner j track) prices₁ discounts
     given = record {

@@ -24,11 +24,13 @@ pub record Row (cells : List ℕ) (price : ℕ) (slack : List ℕ) : Type 0 wher
   pub top : price ≤ leftOut
   pub small : Small slack
 
+-- and what the track leaves of them
 pub record Bounded (cells : List ℕ) (price : ℕ) (slack slack′ : List ℕ) : Type 0 where
   pub slack-long : length slack′ ≡ length slack
   pub less : (k : ℕ) → k < length slack → at slack′ k ≤ at slack k
   pub room : (k : ℕ) → k < length slack → at cells k < far → at slack′ k ≤ at cells k - price
 
+-- and what the search leaves of them
 pub record Tightened (labels : List ℕ) (reach : ℕ) (slack slack′ : List ℕ) : Type 0 where
   pub slack-long : length slack′ ≡ length slack
   pub less : (k : ℕ) → k < length slack → at slack′ k ≤ at slack k
@@ -39,6 +41,7 @@ pub record Beside (owner slack : List ℕ) : Type 0 where
   pub same : length owner ≡ length slack
   pub small : Small slack
 
+-- what a rise of all pairs leaves of the slacks
 pub record Spent (rise : ℕ) (slack slack′ : List ℕ) : Type 0 where
   pub slack-long : length slack′ ≡ length slack
   pub left : (k : ℕ) → k < length slack → at slack′ k ≡ at slack k - rise

@@ -89,6 +89,7 @@ pub fn spend(slack: &mut [u32], rise: u32)
     }
 }
 
+// Only what is in a pair rises.
 fn if_paired(other: u32, rise: u32) -> u32
     ensures { λ r. ⌜ (r ≤ rise) × ((other ≡ none → r ≡ 0) × ((other ≡ none → ⊥) → r ≡ rise)) ⌝ }
 {
@@ -108,14 +109,14 @@ pub fn raise_paired(other: &[u32], rise: u32, a: &mut [u32])
 }
 
 // The highest price.
-pub fn highest(a: &[u32]) -> u32
-    requires { ⌜ Small (now a) ⌝ }
-    ensures { λ r. ⌜ (r ≤ leftOut) × ((k : ℕ) → k < length (now (a .entry)) → at (now (a .entry)) k ≤ r) ⌝ }
+pub fn highest(prices: &[u32]) -> u32
+    requires { ⌜ Small (now prices) ⌝ }
+    ensures { λ r. ⌜ (r ≤ leftOut) × ((k : ℕ) → k < length (now (prices .entry)) → at (now (prices .entry)) k ≤ r) ⌝ }
 {
     let mut best: u32 = 0;
     let mut j: usize = 0;
-    while j < a.len() {
-        best = greater(a[j], best);
+    while j < prices.len() {
+        best = greater(prices[j], best);
         j += 1;
     }
     best

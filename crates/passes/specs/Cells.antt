@@ -44,6 +44,7 @@ pub record Fair (cells discounts labels via : List ℕ) (from price : ℕ) : Typ
   pub labels-in : (k : ℕ) → k < length labels → at labels k ≤ leftOut
   pub fair : (k : ℕ) → k < length labels → at cells k < far → price ≤ at cells k + at discounts k
 
+-- and what it does
 pub record Relaxed (cells discounts : List ℕ) (from price i : ℕ) (labels via labels′ via′ : List ℕ) : Type 0 where
   pub labels-long : length labels′ ≡ length labels
   pub via-long : length via′ ≡ length labels
@@ -128,10 +129,12 @@ pub record Lifted (prices : List ℕ) (track rise : ℕ) (prices′ : List ℕ) 
   pub others : (k : ℕ) → (k ≡ track → ⊥) → at prices′ k ≡ at prices k
   pub here : at prices′ track ≡ at prices track + rise
 
+-- each track in a pair pays by how far its report lies below reach
 pub record PricesUp (pairing labels : List ℕ) (reach : ℕ) (prices prices′ : List ℕ) : Type 0 where
   pub prices-long : length prices′ ≡ length prices
   pub up : (i : ℕ) → i < length prices → (at pairing i < length labels → at prices′ i ≡ at prices i + (reach - at labels (at pairing i))) × (length labels ≤ at pairing i → at prices′ i ≡ at prices i)
 
+-- and the discount of each report rises so
 pub record DiscountsUp (labels : List ℕ) (reach : ℕ) (discounts discounts′ : List ℕ) : Type 0 where
   pub discounts-long : length discounts′ ≡ length discounts
   pub up : (j : ℕ) → j < length discounts → at discounts′ j ≡ at discounts j + (reach - at labels j)

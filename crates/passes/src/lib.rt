@@ -185,12 +185,12 @@ pub fn nearest_from(front: usize, labels: &[u32], closings: &[u32], cap: u32) ->
     front + nearest(&labels[front..], &closings[front..], cap)
 }
 
-// The first open report from `from` on, or the length.
-pub fn open_from(closings: &[u32], from: usize) -> usize
-    requires { ⌜ from ≤ length (now closings) ⌝ }
-    ensures { λ r. ⌜ (from ≤ r) × ((r ≤ length (now (closings .entry))) × ((k : ℕ) → k < r → from ≤ k → at (now (closings .entry)) k ≡ 0 → ⊥)) ⌝ }
+// The first open report from `front` on, or the length.
+pub fn open_from(closings: &[u32], front: usize) -> usize
+    requires { ⌜ front ≤ length (now closings) ⌝ }
+    ensures { λ r. ⌜ (front ≤ r) × ((r ≤ length (now (closings .entry))) × ((k : ℕ) → k < r → front ≤ k → at (now (closings .entry)) k ≡ 0 → ⊥)) ⌝ }
 {
-    let mut j = from;
+    let mut j = front;
     while j < closings.len() {
         if closings[j] == 0 {
             return j;

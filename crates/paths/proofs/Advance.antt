@@ -10,10 +10,10 @@ use lib.Seq.{getD-set-same, getD-set-other}
 use Rattle.laws.specs.Lists.{at}
 use Rattle.matching.specs.Pairing.{leftOut}
 use Rattle.passes.specs.Cells.{far}
-use Rattle.paths.specs.State.{cell, openCount, Prices, Own, Closed, Link, Tree, Offered}
+use Rattle.paths.specs.State.{cell, openCount, Prices, Own, Closed, Link, Leaves, Tree, Offered}
 use Rattle.laws.proofs.Stores.{same-or}
 
-pub open-count-set : (xs : List ℕ) (j v : ℕ) → j < length xs → at xs j ≡ 0 → 0 < v → openCount (set xs j v) + 1 ≡ openCount xs
+open-count-set : (xs : List ℕ) (j v : ℕ) → j < length xs → at xs j ≡ 0 → 0 < v → openCount (set xs j v) + 1 ≡ openCount xs
 unfolding openCount
 open-count-set [] j v h z p = absurd (not-suc-le-zero h)
 open-count-set (x ∷ xs) zero (suc v) h z p = rw z (omega arith)
@@ -34,7 +34,7 @@ module _ {cells : List ℕ} {m n : ℕ} {pairing owner prices discounts : List �
   pub closings-j : at closings′ j ≡ far + k
   closings-j = getD-set-same closings j (far + k) 0 (omega (arith, T .closings-long))
 
-  pub closings-o : (e : ℕ) → (e ≡ j → ⊥) → at closings′ e ≡ at closings e
+  closings-o : (e : ℕ) → (e ≡ j → ⊥) → at closings′ e ≡ at closings e
   closings-o e h = getD-set-other closings j e (far + k) 0 h
 
   -- what is closed now is j or was closed
@@ -136,8 +136,7 @@ module _ {cells : List ℕ} {m n : ℕ} {pairing owner prices discounts : List �
         ⊎-elim (λ d. omega (arith, label c h s, low-now c h s, near e g (open-was e g z .1)))
         (λ d. omega (arith, label c h s, low-now c h s)) (offered e g)
 
-    last′ : ((leaver′ ≡ track) × (leaving′ + at prices track ≡ leftOut))
-        ⊎ ((leaver′ < n) × ((at pairing leaver′ < m) × ((far ≤ at closings′ (at pairing leaver′)) × (leaving′ + at prices leaver′ ≡ at labels′ (at pairing leaver′) + leftOut))))
+    last′ : Leaves m n pairing prices track labels′ closings′ leaving′ leaver′
     last′ =
         ⊎-elim
         (λ p. ⊎-elim (λ a. inl (omega arith, omega arith))

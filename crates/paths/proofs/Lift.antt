@@ -11,6 +11,7 @@ use Rattle.matching.specs.Pairing.{none, leftOut}
 use Rattle.passes.specs.Cells.{Searched, Paid, far, PricesUp, DiscountsUp}
 use Rattle.paths.specs.State.{cell, Shape, Prices, Own, Match, Closed, Link, Tight, Searchable, Ended, Finishable, Settled, Done, Inserted, Reached}
 use Rattle.laws.proofs.Stores.{le-or-lt, same-or}
+use Rattle.paths.proofs.Swap.{free-zero}
 
 -- what the search leaves
 pub searched : {cells : List ℕ} {m n track : ℕ} {pairing owner prices discounts : List ℕ} {reach report leaver : ℕ} {labels via closings : List ℕ}
@@ -74,7 +75,7 @@ module _ {cells : List ℕ} {m track : ℕ} {pairing owner prices discounts labe
   discount-in-now j g = ⊎-elim (λ l. omega (arith, discount-is j g, R .good .numbers .discount-in j g))
       (λ l. let x = E .near j g l in omega (arith, discount-is j g, x .leave, x .own .tight)) (le-or-lt reach (at labels j))
 
-  pub fair₂ : Prices cells m n prices₂ discounts₁
+  fair₂ : Prices cells m n prices₂ discounts₁
   fair₂ = record { fair = fair-now; price-in = price-in-now; discount-in = discount-in-now }
 
   own-now : (j : ℕ) → j < m → (i : ℕ) → Own cells m n pairing prices discounts j i → Own cells m n pairing prices₂ discounts₁ j i
@@ -90,13 +91,13 @@ module _ {cells : List ℕ} {m track : ℕ} {pairing owner prices discounts labe
   free-now : (j : ℕ) → j < m → at owner j ≡ none → at discounts j ≡ 0 → at discounts₁ j ≡ 0
   free-now j g z e = ⊎-elim (λ l. omega (arith, discount-is j g)) (λ l. absurd (omega (arith, E .near j g l .own .there, R .good .shape .tracks-few))) (le-or-lt reach (at labels j))
 
-  pub match₂ : Match cells m n pairing owner prices₂ discounts₁ none
+  match₂ : Match cells m n pairing owner prices₂ discounts₁ none
   match₂ = record {
     owned = λ j g d. ⊎-elim (λ a. inl (a .0, free-now j g (a .0) (a .1))) (λ o. inr (own-now j g (at owner j) o)) (R .good .matched .owned j g d);
     paired = R .good .matched .paired;
   }
 
-  pub shape₂ : Shape cells m n pairing owner prices₂ discounts₁
+  shape₂ : Shape cells m n pairing owner prices₂ discounts₁
   shape₂ = record {
     cells-long = R .good .shape .cells-long;
     pairing-long = R .good .shape .pairing-long;
@@ -149,9 +150,9 @@ module _ {cells : List ℕ} {m track : ℕ} {pairing owner prices discounts labe
   rises : (i j : ℕ) → i < n → j < m → (at pairing i < m) ⊎ (i ≡ track) → at owner j ≡ none → cell cells m i j < far
       → ((at pairing i < m) × (at prices₂ i ≡ at prices i)) ⊎ (at prices₂ i + (at labels j - reach) ≤ cell cells m i j)
   rises i j h g f z a =
-      let w : at discounts j ≡ 0 = ⊎-elim (λ y. y .1) (λ o. absurd (omega (arith, o .there, R .good .shape .tracks-few))) (R .good .matched .owned j g (λ e. omega (arith, R .good .shape .reports-few))) in
-      let w1 = free-now j g z w in
-      let q1 = fair-now i j h g a in
+      let discount = free-zero (R .good) j g z in
+      let discount₁ = free-now j g z discount in
+      let under = fair-now i j h g a in
       ⊎-elim
       (λ p. ⊎-elim (λ l. inl (p, omega (arith, price-paired i h p)))
       (λ l. let b = ⊎-elim (λ y. absurd (omega (arith, R .good .shape .reports-few))) (λ y. y .1 .1) (R .good .matched .paired i h) in
@@ -164,7 +165,7 @@ module _ {cells : List ℕ} {m track : ℕ} {pairing owner prices discounts labe
     labels-long = E .labels-long;
     searched = searched E;
     free = S .moved .free;
-    rise = λ i j h g p z a. rises i j h g (S .moved .from i h p) (S .moved .free j g z) a;
+    rise = λ i j h g p z a. rises i j h g (S .moved .came-in i h p) (S .moved .free j g z) a;
   }
 
   -- place is the track, as an index

@@ -18,7 +18,7 @@ use Rattle.paths.specs.State.{cell, Offerable, Offered}
 abbrev pub row : List ℕ → ℕ → ℕ → List ℕ
 row cells m i = part cells (i * m) (i * m + m)
 
-abbrev pub row-from : List ℕ → ℕ → ℕ → ℕ → List ℕ
+abbrev row-from : List ℕ → ℕ → ℕ → ℕ → List ℕ
 row-from cells m i front = part cells (i * m + front) (i * m + m)
 
 -- a list from front on
@@ -35,10 +35,10 @@ module _ (cells : List ℕ) (m n i : ℕ) (h : i < n) (l : length cells ≡ n * 
   pub row-at : (k : ℕ) → k < m → at (row cells m i) k ≡ cell cells m i k
   row-at k g = part-at cells (i * m) (i * m + m) k (omega arith)
 
-  pub from-length : (front : ℕ) → front ≤ m → length (row-from cells m i front) ≡ m - front
+  from-length : (front : ℕ) → front ≤ m → length (row-from cells m i front) ≡ m - front
   from-length front g = part-length cells (i * m + front) (i * m + m) row-end ∙ omega arith
 
-  pub from-at : (front k : ℕ) → k < m - front → at (row-from cells m i front) k ≡ cell cells m i (front + k)
+  from-at : (front k : ℕ) → k < m - front → at (row-from cells m i front) k ≡ cell cells m i (front + k)
   from-at front k g = part-at cells (i * m + front) (i * m + m) k (omega arith) ∙ ap (at cells) (omega arith)
 
 module _ (cells : List ℕ) (m front i from : ℕ) (prices discounts labels via : List ℕ) (F : Offerable cells m front i from prices discounts labels via) where

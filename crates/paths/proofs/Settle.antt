@@ -2,15 +2,15 @@
 use Prim.Native.Nat.{ℕ, _≤_, _<_}
 use mathlib.Core.Path.{_≡_, ap, sym, _∙_}
 use mathlib.Core.List.{List}
-use mathlib.Core.Logic.{_⊎_, inl, inr, ⊎-elim}
+use mathlib.Core.Logic.{inl, inr, ⊎-elim}
 use native.Mathlib.Omega.{arith}
 use lib.ListN.{set}
 use Rattle.laws.specs.Lists.{at}
 use Rattle.matching.specs.Pairing.{none, leftOut}
 use Rattle.passes.specs.Cells.{far}
-use Rattle.paths.specs.State.{Flips, Flipped, Finishable, Settled}
+use Rattle.paths.specs.State.{Flips, Flipped, LeftOut, Finishable, Settled}
 use Rattle.laws.proofs.Stores.{same-or}
-use Rattle.paths.proofs.Swap.{gone, stays, vacated, shape₁, way-back-set}
+use Rattle.paths.proofs.Swap.{free-vacant, gone, stays, vacated, shape₁, way-back-set}
 
 module _ (cells : List ℕ) (m n : ℕ) (prices discounts : List ℕ) (track : ℕ) (via closings : List ℕ) (report leaver : ℕ) (pairing owner : List ℕ)
     (T : Finishable cells m n prices discounts track via closings report leaver pairing owner) where
@@ -21,7 +21,7 @@ module _ (cells : List ℕ) (m n : ℕ) (prices discounts : List ℕ) (track : �
     pub flips-free : Flips cells m n prices discounts track via closings pairing owner pairing owner report
     flips-free = record {
       shape = T .shape;
-      moved = record { from = λ i h l. inl l; free = λ j h z. z };
+      moved = record { came-in = λ i h l. inl l; free = λ j h z. z };
       via-long = T .via-long;
       closings-long = T .closings-long;
       track-in = T .track-in;
@@ -29,10 +29,7 @@ module _ (cells : List ℕ) (m n : ℕ) (prices discounts : List ℕ) (track : �
       state = inl (record {
         vacant-in = at-free .0;
         vacant-closed = at-free .1 .1;
-        matched = record {
-          owned = λ j h d. T .matched .owned j h (λ e. omega (arith, T .shape .reports-few));
-          paired = λ i h. ⊎-elim inl (λ a. inr (a .0, ((λ e. omega (arith, sym (a .1 .1) ∙ ap (at owner) e ∙ at-free .1 .0, T .shape .tracks-few)), a .1 .1))) (T .matched .paired i h);
-        };
+        matched = free-vacant (T .shape) (T .matched) report (at-free .1 .0);
         way-back = T .way-back (at closings report);
         unpaired = T .unpaired;
       });
@@ -48,13 +45,13 @@ module _ (cells : List ℕ) (m n : ℕ) (prices discounts : List ℕ) (track : �
     }
 
   module _ (no-report : report ≡ none) where
-    at-leaver : ((leaver ≡ track) × (at prices track ≡ leftOut)) ⊎ ((leaver < n) × ((at pairing leaver < m) × ((far ≤ at closings (at pairing leaver)) × (at prices leaver ≡ leftOut))))
+    at-leaver : LeftOut m n pairing prices track closings leaver
     at-leaver = ⊎-elim (λ x. absurd (omega (arith, x .0, T .shape .reports-few))) (λ x. x .1) (T .end)
 
     pub settled-track : leaver ≡ track → Settled cells m n prices discounts track pairing owner pairing owner
     settled-track e = record {
       shape = T .shape;
-      moved = record { from = λ i h l. inl l; free = λ j h z. z };
+      moved = record { came-in = λ i h l. inl l; free = λ j h z. z };
       matched = T .matched;
       done = λ i h l. inl l;
       track-done = ⊎-elim (λ x. inr (x .1)) (λ x. absurd (omega (arith, x .1 .0, ap (at pairing) e, T .unpaired, T .shape .reports-few))) at-leaver;
@@ -76,7 +73,7 @@ module _ (cells : List ℕ) (m n : ℕ) (prices discounts : List ℕ) (track : �
       flips-vacated : Flips cells m n prices discounts track via closings pairing₁ owner pairing₁ owner (at pairing leaver)
       flips-vacated = record {
         shape = shape₁ cells m n prices discounts pairing owner (T .shape) (T .matched) leaver (left-out .0) (left-out .1 .0);
-        moved = record { from = λ i h l. inl l; free = λ j h z. z };
+        moved = record { came-in = λ i h l. inl l; free = λ j h z. z };
         via-long = T .via-long;
         closings-long = T .closings-long;
         track-in = T .track-in;
@@ -99,7 +96,7 @@ module _ (cells : List ℕ) (m n : ℕ) (prices discounts : List ℕ) (track : �
           record {
             shape = G .shape;
             moved = record {
-              from = λ i h l. ⊎-elim (λ a. ⊎-elim (λ q. absurd (omega (arith, ap (at pairing₁) q, paired₁-leaver, T .shape .reports-few))) (λ d. inl (omega (arith, paired₁-other i d))) (same-or i leaver)) inr (G .moved .from i h l);
+              came-in = λ i h l. ⊎-elim (λ a. ⊎-elim (λ q. absurd (omega (arith, ap (at pairing₁) q, paired₁-leaver, T .shape .reports-few))) (λ d. inl (omega (arith, paired₁-other i d))) (same-or i leaver)) inr (G .moved .came-in i h l);
               free = G .moved .free;
             };
             matched = G .whole .matched;

@@ -9,8 +9,21 @@ use lib.Seq.{getD-set-same, getD-set-other}
 use Rattle.laws.specs.Lists.{at}
 use Rattle.matching.specs.Pairing.{none}
 use Rattle.passes.specs.Cells.{far}
-use Rattle.paths.specs.State.{cell, Shape, Own, Match, Tight, WayBack, Vacant, Unbroken, Moved, Flips}
+use Rattle.paths.specs.State.{cell, Shape, Own, Match, Good, Tight, WayBack, Vacant, Unbroken, Moved, Flips}
 use Rattle.laws.proofs.Stores.{same-or}
+
+-- a report that no track has is without discount
+pub free-zero : {cells : List ℕ} {m n : ℕ} {pairing owner prices discounts : List ℕ} → Good cells m n pairing owner prices discounts → (j : ℕ) → j < m → at owner j ≡ none → at discounts j ≡ 0
+free-zero G j h z =
+    ⊎-elim (λ a. a .1) (λ o. absurd (omega (arith, o .there, G .shape .tracks-few))) (G .matched .owned j h (λ e. omega (arith, G .shape .reports-few)))
+
+-- and may count as vacant
+pub free-vacant : {cells : List ℕ} {m n : ℕ} {pairing owner prices discounts : List ℕ} → Shape cells m n pairing owner prices discounts → Match cells m n pairing owner prices discounts none
+    → (j : ℕ) → at owner j ≡ none → Match cells m n pairing owner prices discounts j
+free-vacant {owner = owner} S M j z = record {
+  owned = λ k h d. M .owned k h (λ e. omega (arith, S .reports-few));
+  paired = λ i h. ⊎-elim inl (λ a. inr (a .0, ((λ e. omega (arith, sym (a .1 .1) ∙ ap (at owner) e ∙ z, S .tracks-few)), a .1 .1))) (M .paired i h);
+}
 
 module _ (cells : List ℕ) (m n : ℕ) (prices discounts pairing owner : List ℕ) (S : Shape cells m n pairing owner prices discounts) (vacant : ℕ) (vacant-in : vacant < m)
     (M : Match cells m n pairing owner prices discounts vacant) (i : ℕ) (ir : i < n) (adm : cell cells m i vacant < far) (tight : at prices i ≡ cell cells m i vacant + at discounts vacant) where
@@ -127,7 +140,7 @@ module _ (cells : List ℕ) (m n : ℕ) (prices discounts : List ℕ) (track : �
   abbrev i : ℕ
   i = at via vacant
 
-  pub tight-vacant : Tight cells m n pairing prices discounts track closings vacant i
+  tight-vacant : Tight cells m n pairing prices discounts track closings vacant i
   tight-vacant = vacancy .way-back .step vacant (vacancy .vacant-in) (vacancy .vacant-closed) (omega arith)
 
   abbrev pairing-now : List ℕ
@@ -144,8 +157,8 @@ module _ (cells : List ℕ) (m n : ℕ) (prices discounts : List ℕ) (track : �
 
   moved-now : Moved m n track pairing₀ owner₀ pairing-now (set owner vacant i)
   moved-now = record {
-    from = λ k g l. ⊎-elim (λ q. rw q (⊎-elim inr (λ a. F .moved .from i (tight-vacant .there) (a .0)) (tight-vacant .next)))
-        (λ d. F .moved .from k g (omega (arith, getD-set-other pairing i k vacant 0 d))) (same-or k i);
+    came-in = λ k g l. ⊎-elim (λ q. rw q (⊎-elim inr (λ a. F .moved .came-in i (tight-vacant .there) (a .0)) (tight-vacant .next)))
+        (λ d. F .moved .came-in k g (omega (arith, getD-set-other pairing i k vacant 0 d))) (same-or k i);
     free = λ j g z. ⊎-elim (λ q. absurd (omega (arith, ap (at (set owner vacant i)) q, getD-set-same owner vacant i 0 (omega (arith, F .shape .owner-long, vacancy .vacant-in)), tight-vacant .there, F .shape .tracks-few)))
         (λ d. F .moved .free j g (sym (getD-set-other owner vacant j i 0 d) ∙ z)) (same-or j vacant);
   }

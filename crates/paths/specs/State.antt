@@ -19,7 +19,7 @@ widest = 200
 abbrev pub cell : List ℕ → ℕ → ℕ → ℕ → ℕ
 cell cells m i j = at cells (i * m + j)
 
-abbrev pub oneIfOpen : ℕ → ℕ
+abbrev oneIfOpen : ℕ → ℕ
 oneIfOpen zero = 1
 oneIfOpen (suc n) = 0
 
@@ -78,6 +78,11 @@ pub record Link (cells : List ℕ) (m n : ℕ) (pairing prices discounts : List 
       ⊎ ((at pairing i < m) × ((far ≤ at closings (at pairing i)) × (((at closings c ≡ 0) ⊎ (at closings (at pairing i) < at closings c))
       × (at labels c + at prices i ≡ at labels (at pairing i) + cell cells m i c + at discounts c))))
 
+-- the track whose leaving out costs least, at the label leaving: the one of the search, or one whose report is closed
+abbrev pub Leaves : ℕ → ℕ → List ℕ → List ℕ → ℕ → List ℕ → List ℕ → ℕ → ℕ → Type 0
+Leaves m n pairing prices track labels closings leaving leaver = ((leaver ≡ track) × (leaving + at prices track ≡ leftOut))
+    ⊎ ((leaver < n) × ((at pairing leaver < m) × ((far ≤ at closings (at pairing leaver)) × (leaving + at prices leaver ≡ at labels (at pairing leaver) + leftOut))))
+
 -- the search from a track: labels, the track via which each report was reached, and the order in which reports were closed
 pub record Tree (cells : List ℕ) (m n : ℕ) (pairing owner prices discounts : List ℕ) (track leaving leaver k : ℕ) (labels via closings : List ℕ) : Type 0 where
   pub labels-long : length labels ≡ m
@@ -90,8 +95,7 @@ pub record Tree (cells : List ℕ) (m n : ℕ) (pairing owner prices discounts :
   pub sorted : (c e : ℕ) → c < m → e < m → far ≤ at closings c → at closings e ≡ 0 → at labels c ≤ at labels e
   pub under : (c : ℕ) → c < m → far ≤ at closings c → at labels c < leftOut
   pub leaving-in : leaving + at prices track ≤ leftOut
-  pub last : ((leaver ≡ track) × (leaving + at prices track ≡ leftOut))
-      ⊎ ((leaver < n) × ((at pairing leaver < m) × ((far ≤ at closings (at pairing leaver)) × (leaving + at prices leaver ≡ at labels (at pairing leaver) + leftOut))))
+  pub last : Leaves m n pairing prices track labels closings leaving leaver
   pub links : (c : ℕ) → c < m → at labels c < leftOut → Link cells m n pairing prices discounts track labels closings c (at via c)
   pub count : k + openCount closings ≡ m
 
@@ -169,8 +173,7 @@ pub record Ended (cells : List ℕ) (m n : ℕ) (pairing owner prices discounts 
   pub low : (c : ℕ) → c < m → far ≤ at closings c → at labels c ≤ reach
   pub links : (c : ℕ) → c < m → far ≤ at closings c → Link cells m n pairing prices discounts track labels closings c (at via c)
   pub end : ((report < m) × ((at owner report ≡ none) × ((far ≤ at closings report) × (at labels report ≡ reach))))
-      ⊎ ((report ≡ none) × (((leaver ≡ track) × (reach + at prices track ≡ leftOut))
-      ⊎ ((leaver < n) × ((at pairing leaver < m) × ((far ≤ at closings (at pairing leaver)) × (reach + at prices leaver ≡ at labels (at pairing leaver) + leftOut))))))
+      ⊎ ((report ≡ none) × Leaves m n pairing prices track labels closings reach leaver)
 
 -- the reports on the way back: each is tight at the track via which it was reached, and that track's report comes earlier
 pub record Tight (cells : List ℕ) (m n : ℕ) (pairing prices discounts : List ℕ) (track : ℕ) (closings : List ℕ) (c i : ℕ) : Type 0 where
@@ -179,6 +182,7 @@ pub record Tight (cells : List ℕ) (m n : ℕ) (pairing prices discounts : List
   pub tight : at prices i ≡ cell cells m i c + at discounts c
   pub next : (i ≡ track) ⊎ ((at pairing i < m) × ((far ≤ at closings (at pairing i)) × (at closings (at pairing i) < at closings c)))
 
+-- up to the report that was closed last
 pub record WayBack (cells : List ℕ) (m n : ℕ) (pairing prices discounts : List ℕ) (track : ℕ) (via closings : List ℕ) (bound : ℕ) : Type 0 where
   pub step : (c : ℕ) → c < m → far ≤ at closings c → at closings c ≤ bound → Tight cells m n pairing prices discounts track closings c (at via c)
 
@@ -197,9 +201,10 @@ pub record Unbroken (cells : List ℕ) (m n : ℕ) (prices discounts : List ℕ)
 
 -- from one pairing to another: only the track comes in, and no report becomes free
 pub record Moved (m n track : ℕ) (pairing owner pairing′ owner′ : List ℕ) : Type 0 where
-  pub from : (i : ℕ) → i < n → at pairing′ i < m → (at pairing i < m) ⊎ (i ≡ track)
+  pub came-in : (i : ℕ) → i < n → at pairing′ i < m → (at pairing i < m) ⊎ (i ≡ track)
   pub free : (j : ℕ) → j < m → at owner′ j ≡ none → at owner j ≡ none
 
+-- a pairing on its way from pairing₀: a report is vacant, or the last one is given
 pub record Flips (cells : List ℕ) (m n : ℕ) (prices discounts : List ℕ) (track : ℕ) (via closings pairing₀ owner₀ pairing owner : List ℕ) (vacant : ℕ) : Type 0 where
   pub shape : Shape cells m n pairing owner prices discounts
   pub moved : Moved m n track pairing₀ owner₀ pairing owner
@@ -209,11 +214,17 @@ pub record Flips (cells : List ℕ) (m n : ℕ) (prices discounts : List ℕ) (t
   pub kept : (i : ℕ) → i < n → at pairing₀ i < m → at pairing i < m
   pub state : Vacant cells m n prices discounts track via closings pairing owner vacant ⊎ ((vacant ≡ none) × Unbroken cells m n prices discounts track pairing owner)
 
+-- and at its end: no track has lost its report
 pub record Flipped (cells : List ℕ) (m n : ℕ) (prices discounts : List ℕ) (track : ℕ) (pairing owner pairing′ owner′ : List ℕ) : Type 0 where
   pub shape : Shape cells m n pairing′ owner′ prices discounts
   pub moved : Moved m n track pairing owner pairing′ owner′
   pub whole : Unbroken cells m n prices discounts track pairing′ owner′
   pub kept : (i : ℕ) → i < n → at pairing i < m → at pairing′ i < m
+
+-- the track that is left out, at the full price: the one that comes in, or one whose report is closed
+abbrev pub LeftOut : ℕ → ℕ → List ℕ → List ℕ → ℕ → List ℕ → ℕ → Type 0
+LeftOut m n pairing prices track closings leaver = ((leaver ≡ track) × (at prices track ≡ leftOut))
+    ⊎ ((leaver < n) × ((at pairing leaver < m) × ((far ≤ at closings (at pairing leaver)) × (at prices leaver ≡ leftOut))))
 
 -- the pairing is to be changed along the way back from a free report, or from the report of a track that is left out
 pub record Finishable (cells : List ℕ) (m n : ℕ) (prices discounts : List ℕ) (track : ℕ) (via closings : List ℕ) (report leaver : ℕ) (pairing owner : List ℕ) : Type 0 where
@@ -225,20 +236,21 @@ pub record Finishable (cells : List ℕ) (m n : ℕ) (prices discounts : List �
   pub matched : Match cells m n pairing owner prices discounts none
   pub way-back : (b : ℕ) → WayBack cells m n pairing prices discounts track via closings b
   pub end : ((report < m) × ((at owner report ≡ none) × (far ≤ at closings report)))
-      ⊎ ((report ≡ none) × (((leaver ≡ track) × (at prices track ≡ leftOut))
-      ⊎ ((leaver < n) × ((at pairing leaver < m) × ((far ≤ at closings (at pairing leaver)) × (at prices leaver ≡ leftOut))))))
-
-pub record Settled (cells : List ℕ) (m n : ℕ) (prices discounts : List ℕ) (track : ℕ) (pairing owner pairing′ owner′ : List ℕ) : Type 0 where
-  pub shape : Shape cells m n pairing′ owner′ prices discounts
-  pub moved : Moved m n track pairing owner pairing′ owner′
-  pub matched : Match cells m n pairing′ owner′ prices discounts none
-  pub done : (i : ℕ) → i < n → at pairing i < m → (at pairing′ i < m) ⊎ (at prices i ≡ leftOut)
-  pub track-done : (at pairing′ track < m) ⊎ (at prices track ≡ leftOut)
+      ⊎ ((report ≡ none) × LeftOut m n pairing prices track closings leaver)
 
 -- track i is paired, or left out at the full price
 abbrev pub Done : ℕ → List ℕ → List ℕ → ℕ → Type 0
 Done m pairing prices i = (at pairing i < m) ⊎ (at prices i ≡ leftOut)
 
+-- the pairing once it is changed: only a track at the full price has lost its report
+pub record Settled (cells : List ℕ) (m n : ℕ) (prices discounts : List ℕ) (track : ℕ) (pairing owner pairing′ owner′ : List ℕ) : Type 0 where
+  pub shape : Shape cells m n pairing′ owner′ prices discounts
+  pub moved : Moved m n track pairing owner pairing′ owner′
+  pub matched : Match cells m n pairing′ owner′ prices discounts none
+  pub done : (i : ℕ) → i < n → at pairing i < m → Done m pairing′ prices i
+  pub track-done : Done m pairing′ prices track
+
+-- what an insertion gives: fair prices and a pairing again, and the tracks that are done stay so
 pub record Inserted (cells : List ℕ) (m n track : ℕ) (pairing prices pairing′ owner′ prices′ discounts′ : List ℕ) : Type 0 where
   pub good : Good cells m n pairing′ owner′ prices′ discounts′
   pub done : (i : ℕ) → i < n → Done m pairing prices i → Done m pairing′ prices′ i

@@ -11,13 +11,9 @@ use Rattle.matching.specs.Pairing.{none, leftOut}
 use Rattle.passes.specs.Cells.{far}
 use Rattle.lifting.specs.Slack.{Row, Bounded, Raised, Spent, Slacks, Tightened}
 use Rattle.paths.specs.State.{cell, Own, Good, Rooms, Inserted, Reached, Searchable}
+use Rattle.paths.proofs.Swap.{free-zero}
 use Rattle.paths.proofs.Rows.{row, row-length, row-at, row-end}
 use Rattle.queue.specs.State.{Slack, Lifting}
-
--- a report that no track has is without discount
-pub free-zero : (cells : List ℕ) (m n : ℕ) (pairing owner prices discounts : List ℕ) → Good cells m n pairing owner prices discounts → (j : ℕ) → j < m → at owner j ≡ none → at discounts j ≡ 0
-free-zero cells m n pairing owner prices discounts G j g z =
-    ⊎-elim (λ a. a .1) (λ o. absurd (omega (arith, o .there, G .shape .tracks-few))) (G .matched .owned j g (λ e. omega (arith, G .shape .reports-few)))
 
 module _ (cells : List ℕ) (m track : ℕ) (pairing owner prices discounts slack : List ℕ) (G : Good cells m (length prices) pairing owner prices discounts) (h : track < length prices)
     (K : Slack cells m track pairing owner prices slack) where
@@ -56,7 +52,7 @@ module _ (cells : List ℕ) (m track : ℕ) (pairing owner prices discounts slac
           row-is j g,
           ap (λ (k : ℕ). cell cells m k j) q,
           G .numbers .fair track j h g (omega (arith, ap (λ (k : ℕ). cell cells m k j) q)),
-          free-zero cells m (length prices) pairing owner prices discounts G j g f,
+          free-zero G j g f,
         )))
         (λ d. omega (arith, K .room i j (omega arith) g p f a, R .less j s)) (same-or i track);
   }

@@ -11,10 +11,10 @@ use Rattle.lifting.proofs.highest.Statement.{statement}
 use Rattle.lifting.proofs.highest.Tie as tie
 
 abbrev Inv-loop : tie.InvT-loop
-Inv-loop a best₀ j₀ best j = (j ≤ length a) × ((best ≤ leftOut) × ((k : ℕ) → k < j → at a k ≤ best))
+Inv-loop prices best₀ j₀ best j = (j ≤ length prices) × ((best ≤ leftOut) × ((k : ℕ) → k < j → at prices k ≤ best))
 
 abbrev μ-loop : tie.MeasureT-loop
-μ-loop a best₀ j₀ best j = length a - j
+μ-loop prices best₀ j₀ best j = length prices - j
 
 loop-holds : tie.Need-loop-holds Inv-loop μ-loop
 loop-holds c = (search needs, (omega arith, below-none _))
@@ -40,7 +40,7 @@ loop-again c =
     let l = c .greater .ensures in (
       search needs,
       (
-        ⊎-elim (λ g. omega (arith, l .1 .1 .1 g, c .before .before .before .before .before .pre (p .j) (c .before .before .loop-test .taken))) (λ g. omega (arith, l .1 .1 .0 g, p .inv .1 .0)) (le-or-lt (p .best) (at (c .before .before .before .before .before .args .a .now) (p .j))),
+        ⊎-elim (λ g. omega (arith, l .1 .1 .1 g, c .before .before .before .before .before .pre (p .j) (c .before .before .loop-test .taken))) (λ g. omega (arith, l .1 .1 .0 g, p .inv .1 .0)) (le-or-lt (p .best) (at (c .before .before .before .before .before .args .prices .now) (p .j))),
         below-more _ _ (λ k h. omega (arith, l .1 .0, p .inv .1 .1 k h)) (omega (arith, l .0)),
       ),
     )
