@@ -148,16 +148,16 @@ fn lifted_turns(
     requires { ⌜ Lifting (now sheet) reports (length (now prices)) (now pairing) (now owner) (now prices) (now discounts) (now slack) × Rooms reports (now labels) (now via) (now closings) ⌝ }
     ensures { λ _. ⌜ Good (now (sheet .entry)) reports (length (now (prices .entry))) (now (pairing .exit)) (now (owner .exit)) (now (prices .exit)) (now (discounts .exit)) ⌝ }
 {
-    let mut k: usize = 0;
-    while k < prices.len() {
-        let t = next_turn(pairing, prices);
-        if t == 0 {
+    let mut round: usize = 0;
+    while round < prices.len() {
+        let turn = next_turn(pairing, prices);
+        if turn == 0 {
             return;
         }
         lifted_turn(
             sheet,
             reports,
-            t - 1,
+            turn - 1,
             pairing,
             owner,
             prices,
@@ -167,16 +167,20 @@ fn lifted_turns(
             closings,
             slack,
         );
-        k += 1;
+        round += 1;
     }
 }
 
 // The rounds end with a long search.
-fn next_round(k: usize, rounds: usize, closed: u32) -> usize
-    requires { ⌜ k < rounds ⌝ }
-    ensures { λ r. ⌜ (k < r) × (r ≤ rounds) ⌝ }
+fn next_round(round: usize, rounds: usize, closed: u32) -> usize
+    requires { ⌜ round < rounds ⌝ }
+    ensures { λ r. ⌜ (round < r) × (r ≤ rounds) ⌝ }
 {
-    if closed >= LONG_SEARCH { rounds } else { k + 1 }
+    if closed >= LONG_SEARCH {
+        rounds
+    } else {
+        round + 1
+    }
 }
 
 // Turns until no track is without a report, or a search was long.
@@ -194,16 +198,16 @@ fn first_turns(
     requires { ⌜ Good (now sheet) reports (length (now prices)) (now pairing) (now owner) (now prices) (now discounts) × Rooms reports (now labels) (now via) (now closings) ⌝ }
     ensures { λ _. ⌜ Good (now (sheet .entry)) reports (length (now (prices .entry))) (now (pairing .exit)) (now (owner .exit)) (now (prices .exit)) (now (discounts .exit)) ⌝ }
 {
-    let mut k: usize = 0;
-    while k < prices.len() {
-        let t = next_turn(pairing, prices);
-        if t == 0 {
+    let mut round: usize = 0;
+    while round < prices.len() {
+        let turn = next_turn(pairing, prices);
+        if turn == 0 {
             return;
         }
         let r = insert(
             sheet,
             reports,
-            t - 1,
+            turn - 1,
             pairing,
             owner,
             prices,
@@ -213,7 +217,7 @@ fn first_turns(
             closings,
         );
         let closed = r.closed;
-        k = next_round(k, prices.len(), closed);
+        round = next_round(round, prices.len(), closed);
     }
 }
 
