@@ -13,7 +13,7 @@ use Rattle.paths.specs.State.{cell, Shape, Own, Match, Good, Done, Searchable, 
 use Rattle.engine.specs.State.{Fresh, Contest, Claimed, Visit}
 use Rattle.queue.proofs.Rise.{good-len}
 use Rattle.laws.proofs.Stores.{same-or}
-use Rattle.paths.proofs.Swap.{free-zero, free-vacant, refit, shape′, stays, vacated, shape₁}
+use Rattle.paths.proofs.Swap.{reshaped, free-zero, free-vacant, refit, shape′, stays, vacated, shape₁}
 use Rattle.paths.proofs.Rows.{row, row-length, row-at, row-end}
 
 module _ (cells : List ℕ) (m n track : ℕ) (pairing owner prices discounts : List ℕ) (G : Good cells m n pairing owner prices discounts) (track-in : track < n) (unpaired : at pairing track ≡ none)
@@ -37,7 +37,7 @@ module _ (cells : List ℕ) (m n track : ℕ) (pairing owner prices discounts : 
 
   pub priced : Good cells m n pairing owner prices₁ discounts
   priced = record {
-    shape = record { cells-long = G .shape .cells-long; pairing-long = G .shape .pairing-long; owner-long = G .shape .owner-long; prices-long = simp length-set (G .shape .prices-long); discounts-long = G .shape .discounts-long; tracks-few = G .shape .tracks-few; reports-few = G .shape .reports-few; cells-good = G .shape .cells-good };
+    shape = reshaped (G .shape) refl refl (simp length-set) refl;
     numbers = record {
       fair = λ i j h g a. ⊎-elim (λ q. rw q (omega (arith, price₁-track, score-least j g))) (λ d. omega (arith, price₁-other i d, G .numbers .fair i j h g a)) (same-or i track);
       price-in = λ i h. ⊎-elim (λ q. rw q (omega (arith, price₁-track))) (λ d. omega (arith, price₁-other i d, G .numbers .price-in i h)) (same-or i track);

@@ -10,7 +10,7 @@ use lib.Seq.{getD-set-same, getD-set-other}
 use Rattle.laws.specs.Lists.{at}
 use Rattle.matching.specs.Pairing.{leftOut}
 use Rattle.passes.specs.Cells.{far}
-use Rattle.paths.specs.State.{cell, openCount, Prices, Own, Closed, Link, Leaves, Tree, Offered}
+use Rattle.paths.specs.State.{cell, openCount, closedAt, Prices, Own, Closed, Link, Leaves, Tree, Offered}
 use Rattle.laws.proofs.Stores.{same-or}
 
 open-count-set : (xs : List ℕ) (j v : ℕ) → j < length xs → at xs j ≡ 0 → 0 < v → openCount (set xs j v) + 1 ≡ openCount xs
@@ -29,7 +29,7 @@ open-count-all (x ∷ xs) f = rw (f zero (omega arith)) (omega (arith, open-coun
 module _ {cells : List ℕ} {m n : ℕ} {pairing owner prices discounts : List ℕ} {track leaving leaver k : ℕ} {labels via closings : List ℕ}
     (T : Tree cells m n pairing owner prices discounts track leaving leaver k labels via closings) {j : ℕ} (jm : j < m) (jo : at closings j ≡ 0) where
   abbrev closings′ : List ℕ
-  closings′ = set closings j (far + k)
+  closings′ = closedAt closings j k
 
   pub closings-j : at closings′ j ≡ far + k
   closings-j = getD-set-same closings j (far + k) 0 (omega (arith, T .closings-long))

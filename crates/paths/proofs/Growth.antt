@@ -7,11 +7,11 @@ use mathlib.Core.List.{List}
 use mathlib.Core.Logic.{inl, inr, ⊎-elim}
 use native.Mathlib.Omega.{arith}
 use borrow.Author.Tests.{ltb-true, lt-ltb, eq-eqb, ne-eqb}
-use lib.ListN.{length, set, length-set}
+use lib.ListN.{length, length-set}
 use Rattle.laws.specs.Lists.{at}
 use Rattle.matching.specs.Pairing.{none, leftOut}
 use Rattle.passes.specs.Cells.{far, FromLabels}
-use Rattle.paths.specs.State.{Own, Good, Tree, Front, Standing, isTaken, Endable, EndsAt, Offered, Offerable, Searchable, Ended}
+use Rattle.paths.specs.State.{closedAt, Own, Good, Tree, Front, Standing, isTaken, Endable, EndsAt, Offered, Offerable, Searchable, Ended}
 use Rattle.laws.proofs.Stores.{le-or-lt}
 use Rattle.laws.proofs.Tests.{and-both, and-left, and-right, clash}
 use Rattle.paths.proofs.Advance.{advance, open-count-all, closings-j, low-now, still, open-or-closed′, link-closed}
@@ -39,9 +39,10 @@ module _ {cells : List ℕ} {m track : ℕ} {pairing owner prices discounts labe
     labels-in = λ j h. omega (arith, f .1 j (omega (arith, R .rooms .labels-long)));
   }
 
-  pub plant : {x : ℕ} {labels₁ labels₂ via₂ closings₁ : List ℕ} → x ≡ track → AllAre labels₀ labels₁ leftOut → AllAre closings₀ closings₁ 0 → Offered cells m discounts 0 (at prices track) track labels₁ via₀ labels₂ via₂
-      → Tree cells m (length prices) pairing owner prices discounts track (leftOut - at prices x) track 0 labels₂ via₂ closings₁
-  plant {x} {labels₁} {labels₂} {via₂} {closings₁} q f g S = record {
+  -- place is the track, as an index
+  pub plant : {place : ℕ} {labels₁ labels₂ via₂ closings₁ : List ℕ} → place ≡ track → AllAre labels₀ labels₁ leftOut → AllAre closings₀ closings₁ 0 → Offered cells m discounts 0 (at prices track) track labels₁ via₀ labels₂ via₂
+      → Tree cells m (length prices) pairing owner prices discounts track (leftOut - at prices place) track 0 labels₂ via₂ closings₁
+  plant {place} {labels₁} {labels₂} {via₂} {closings₁} q f g S = record {
     labels-long = S .labels-long;
     via-long = S .via-long;
     closings-long = g .0 ∙ R .rooms .closings-long;
@@ -64,7 +65,7 @@ module _ {cells : List ℕ} {m track : ℕ} {pairing owner prices discounts labe
       all-open : (k : ℕ) → k < m → at closings₁ k ≡ 0
       all-open k h = g .1 k (omega (arith, R .rooms .closings-long))
 
-      leaves : leftOut - at prices x + at prices track ≡ leftOut
+      leaves : leftOut - at prices place + at prices track ≡ leftOut
       leaves = omega (arith, ap (at prices) q, R .good .numbers .price-in track (R .track-in))
 
 module _ {cells : List ℕ} {m track : ℕ} {pairing owner prices discounts : List ℕ} {leaving leaver k front : ℕ} {labels via closings : List ℕ} where
@@ -105,10 +106,7 @@ module _ {cells : List ℕ} {m track : ℕ} {pairing owner prices discounts : Li
       pop-near : (e : ℕ) → e < m → at closings e ≡ 0 → at labels j ≤ at labels e
       pop-near e h z = omega (arith, S .nearest .least e (omega (arith, T .labels-long)) jl, pop-open)
 
-      abbrev closings′ : List ℕ
-      closings′ = set closings j (far + k)
-
-      ended-free : at owner j ≡ none → (leaver′ : ℕ) → Ended cells m (length prices) pairing owner prices discounts track (at labels j) j leaver′ labels via closings′
+      ended-free : at owner j ≡ none → (leaver′ : ℕ) → Ended cells m (length prices) pairing owner prices discounts track (at labels j) j leaver′ labels via (closedAt closings j k)
       ended-free free leaver′ = record {
         labels-long = T .labels-long;
         labels-in = T .labels-in;
@@ -136,42 +134,39 @@ module _ {cells : List ℕ} {m track : ℕ} {pairing owner prices discounts : Li
       pub own-j : Own cells m (length prices) pairing prices discounts j (at owner j)
       own-j = ⊎-elim (λ a. absurd (clash {b = not (eqb (at owner j) none)} (and-right (ltb j (length owner)) _ t) (rw (eq-eqb (at owner j) none (a .0)) refl))) (λ o. o) (G .matched .owned j next-in (λ e. omega (arith, next-in, G .shape .reports-few)))
 
-      abbrev closings″ : List ℕ
-      closings″ = set closings j (far + k)
-
-      -- r is the track that has report j, leaving′ and leaver′ are what leaving a track out then costs, and which
-      pub turn : {r leaving′ leaver′ : ℕ} {labels′ via′ : List ℕ} → r ≡ at owner j → let x = at labels j + (leftOut - at prices r) in
-          (leaving′ ≤ x) × ((leaving′ ≤ leaving) × ((x < leaving → leaving′ ≡ x) × (leaving ≤ x → leaving′ ≡ leaving)))
-          → (x < leaving → leaver′ ≡ at owner j) × (leaving ≤ x → leaver′ ≡ leaver)
+      -- place is the track that has report j, as an index; leaving′ and leaver′ are what leaving a track out then costs, and which
+      pub turn : {place leaving′ leaver′ : ℕ} {labels′ via′ : List ℕ} → place ≡ at owner j → let cost = at labels j + (leftOut - at prices place) in
+          (leaving′ ≤ cost) × ((leaving′ ≤ leaving) × ((cost < leaving → leaving′ ≡ cost) × (leaving ≤ cost → leaving′ ≡ leaving)))
+          → (cost < leaving → leaver′ ≡ at owner j) × (leaving ≤ cost → leaver′ ≡ leaver)
           → Offered cells m discounts (at labels j) (at prices (at owner j)) (at owner j) labels via labels′ via′
-          → Tree cells m (length prices) pairing owner prices discounts track leaving′ leaver′ (k + 1) labels′ via′ closings″
-      turn {r} {leaving′} {leaver′} q L K S′ =
-          let x = at labels j + (leftOut - at prices r) in
-          let e : x + at prices (at owner j) ≡ at labels j + leftOut = omega (arith, ap (at prices) q, G .numbers .price-in (at owner j) (own-j .there)) in
+          → Tree cells m (length prices) pairing owner prices discounts track leaving′ leaver′ (k + 1) labels′ via′ (closedAt closings j k)
+      turn {place} {leaving′} {leaver′} q L K S′ =
+          let cost = at labels j + (leftOut - at prices place) in
+          let e : cost + at prices (at owner j) ≡ at labels j + leftOut = omega (arith, ap (at prices) q, G .numbers .price-in (at owner j) (own-j .there)) in
           advance T next-in (pop-open next-in) (G .numbers) (pop-low next-in) (pop-near next-in) own-j
           (L .1 .0) (omega (arith, L .0))
-          (⊎-elim (λ g. omega (arith, L .1 .1 .1 g, pop-low next-in)) (λ g. omega (arith, L .1 .1 .0 g)) (le-or-lt leaving x))
-          (⊎-elim (λ g. inl (L .1 .1 .1 g, K .1 g)) (λ g. inr (omega (arith, L .1 .1 .0 g), K .0 g)) (le-or-lt leaving x))
+          (⊎-elim (λ g. omega (arith, L .1 .1 .1 g, pop-low next-in)) (λ g. omega (arith, L .1 .1 .0 g)) (le-or-lt leaving cost))
+          (⊎-elim (λ g. inl (L .1 .1 .1 g, K .1 g)) (λ g. inr (omega (arith, L .1 .1 .0 g), K .0 g)) (le-or-lt leaving cost))
           S′
 
-      -- r is the first report from front on that is open
-      module _ {r : ℕ} (O : (front ≤ r) × ((r ≤ length closings″) × ((e : ℕ) → e < r → front ≤ e → at closings″ e ≡ 0 → ⊥))) where
-        few-r : r ≤ m
-        few-r = omega (arith, O .1 .0, T .closings-long, length-set closings j (far + k))
+      -- front′ is the first report from front on that is open
+      module _ {front′ : ℕ} (O : (front ≤ front′) × ((front′ ≤ length (closedAt closings j k)) × ((e : ℕ) → e < front′ → front ≤ e → at (closedAt closings j k) e ≡ 0 → ⊥))) where
+        front-in : front′ ≤ m
+        front-in = omega (arith, O .1 .0, T .closings-long, length-set closings j (far + k))
 
-        pub front-more : Front r m closings″
+        pub front-more : Front front′ m (closedAt closings j k)
         front-more = record {
-          upto = few-r;
+          upto = front-in;
           closed = λ e h. ⊎-elim
-              (λ l. ⊎-elim (λ z. absurd (O .1 .1 e h l z)) (λ s. s .0) (open-or-closed′ T next-in (pop-open next-in) e (omega (arith, few-r))))
+              (λ l. ⊎-elim (λ z. absurd (O .1 .1 e h l z)) (λ s. s .0) (open-or-closed′ T next-in (pop-open next-in) e (omega (arith, front-in))))
               (λ l. omega (arith, S .behind .closed e l, still T next-in (pop-open next-in) e (S .behind .closed e l)))
               (le-or-lt front e);
         }
 
-        pub fit-row : Offerable cells m r (at owner j) (at labels j) prices discounts labels via
+        pub fit-row : Offerable cells m front′ (at owner j) (at labels j) prices discounts labels via
         fit-row = record {
-          front-in = few-r;
-          before = λ e h. low-now T next-in (pop-open next-in) e (omega (arith, few-r)) (front-more .closed e h);
+          front-in = front-in;
+          before = λ e h. low-now T next-in (pop-open next-in) e (omega (arith, front-in)) (front-more .closed e h);
           track-in = own-j .there;
           cells-long = G .shape .cells-long;
           cells-good = G .shape .cells-good;

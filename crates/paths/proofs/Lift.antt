@@ -1,6 +1,6 @@
 -- The prices after a search: all stays fair, the pairs stay tight, and the way back is tight.
 use Prim.Native.Nat.{ℕ, _+_, _-_, _≤_, _<_}
-use mathlib.Core.Path.{_≡_, ap, sym, subst, _∙_}
+use mathlib.Core.Path.{_≡_, refl, ap, sym, subst, _∙_}
 use mathlib.Core.List.{List}
 use mathlib.Core.Logic.{_⊎_, inl, inr, ⊎-elim}
 use native.Mathlib.Omega.{arith}
@@ -11,7 +11,7 @@ use Rattle.matching.specs.Pairing.{none, leftOut}
 use Rattle.passes.specs.Cells.{Searched, Paid, far, PricesUp, DiscountsUp}
 use Rattle.paths.specs.State.{cell, Shape, Prices, Own, Match, Closed, Link, Tight, Searchable, Ended, Finishable, Settled, Done, Inserted, Reached}
 use Rattle.laws.proofs.Stores.{le-or-lt, same-or}
-use Rattle.paths.proofs.Swap.{free-zero}
+use Rattle.paths.proofs.Swap.{reshaped, free-zero}
 
 -- what the search leaves
 pub searched : {cells : List ℕ} {m n track : ℕ} {pairing owner prices discounts : List ℕ} {reach report leaver : ℕ} {labels via closings : List ℕ}
@@ -98,16 +98,7 @@ module _ {cells : List ℕ} {m track : ℕ} {pairing owner prices discounts labe
   }
 
   shape₂ : Shape cells m n pairing owner prices₂ discounts₁
-  shape₂ = record {
-    cells-long = R .good .shape .cells-long;
-    pairing-long = R .good .shape .pairing-long;
-    owner-long = R .good .shape .owner-long;
-    prices-long = simp length-set (PU .prices-long);
-    discounts-long = DU .discounts-long ∙ R .good .shape .discounts-long;
-    tracks-few = R .good .shape .tracks-few;
-    reports-few = R .good .shape .reports-few;
-    cells-good = R .good .shape .cells-good;
-  }
+  shape₂ = reshaped (R .good .shape) refl refl (simp length-set (PU .prices-long)) (DU .discounts-long)
 
   tight₂ : (c : ℕ) → c < m → far ≤ at closings c → (i : ℕ) → Link cells m n pairing prices discounts track labels closings c i → Tight cells m n pairing prices₂ discounts₁ track closings c i
   tight₂ c g s i x = record {

@@ -1,16 +1,30 @@
 -- The vacant report goes to track i, whose report is vacant next.
 use Prim.Native.Nat.{ℕ, _+_, _≤_, _<_}
-use mathlib.Core.Path.{_≡_, ap, sym, _∙_}
+use mathlib.Core.Path.{_≡_, refl, ap, sym, _∙_}
 use mathlib.Core.List.{List}
 use mathlib.Core.Logic.{_⊎_, inl, inr, ⊎-elim}
 use native.Mathlib.Omega.{arith}
-use lib.ListN.{set, length-set, List·getD-eq-default}
+use lib.ListN.{length, set, length-set, List·getD-eq-default}
 use lib.Seq.{getD-set-same, getD-set-other}
 use Rattle.laws.specs.Lists.{at}
 use Rattle.matching.specs.Pairing.{none}
 use Rattle.passes.specs.Cells.{far}
 use Rattle.paths.specs.State.{cell, Shape, Own, Match, Good, Tight, WayBack, Vacant, Unbroken, Moved, Flips}
 use Rattle.laws.proofs.Stores.{same-or}
+
+-- other lists of the same lengths
+pub reshaped : {cells : List ℕ} {m n : ℕ} {pairing owner prices discounts pairing′ owner′ prices′ discounts′ : List ℕ} → Shape cells m n pairing owner prices discounts → length pairing′ ≡ length pairing → length owner′ ≡ length owner
+    → length prices′ ≡ length prices → length discounts′ ≡ length discounts → Shape cells m n pairing′ owner′ prices′ discounts′
+reshaped S pairing-as owner-as prices-as discounts-as = record {
+  cells-long = S .cells-long;
+  pairing-long = pairing-as ∙ S .pairing-long;
+  owner-long = owner-as ∙ S .owner-long;
+  prices-long = prices-as ∙ S .prices-long;
+  discounts-long = discounts-as ∙ S .discounts-long;
+  tracks-few = S .tracks-few;
+  reports-few = S .reports-few;
+  cells-good = S .cells-good;
+}
 
 -- a report that no track has is without discount
 pub free-zero : {cells : List ℕ} {m n : ℕ} {pairing owner prices discounts : List ℕ} → Good cells m n pairing owner prices discounts → (j : ℕ) → j < m → at owner j ≡ none → at discounts j ≡ 0
@@ -78,7 +92,7 @@ module _ (cells : List ℕ) (m n : ℕ) (prices discounts pairing owner : List �
   }
 
   pub shape′ : Shape cells m n pairing′ owner′ prices discounts
-  shape′ = record { cells-long = S .cells-long; pairing-long = simp length-set (S .pairing-long); owner-long = simp length-set (S .owner-long); prices-long = S .prices-long; discounts-long = S .discounts-long; tracks-few = S .tracks-few; reports-few = S .reports-few; cells-good = S .cells-good }
+  shape′ = reshaped S (simp length-set) (simp length-set) refl refl
 
 -- a track gives its report up: it is vacant
 module _ (cells : List ℕ) (m n : ℕ) (prices discounts pairing owner : List ℕ) (S : Shape cells m n pairing owner prices discounts)
@@ -114,7 +128,7 @@ module _ (cells : List ℕ) (m n : ℕ) (prices discounts pairing owner : List �
   }
 
   pub shape₁ : Shape cells m n pairing₁ owner prices discounts
-  shape₁ = record { cells-long = S .cells-long; pairing-long = simp length-set (S .pairing-long); owner-long = S .owner-long; prices-long = S .prices-long; discounts-long = S .discounts-long; tracks-few = S .tracks-few; reports-few = S .reports-few; cells-good = S .cells-good }
+  shape₁ = reshaped S (simp length-set) refl refl refl
 
 -- the way back from a report outlives a store at that report's track
 module _ (cells : List ℕ) (m n : ℕ) (prices discounts pairing : List ℕ) (track : ℕ) (via closings : List ℕ) (i v bound : ℕ)

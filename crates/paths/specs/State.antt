@@ -28,6 +28,10 @@ unfoldable pub openCount : List ℕ → ℕ
 openCount [] = 0
 openCount (x ∷ xs) = oneIfOpen x + openCount xs
 
+-- the closings once report j is closed too, after k others
+abbrev pub closedAt : List ℕ → ℕ → ℕ → List ℕ
+closedAt closings j k = set closings j (far + k)
+
 -- the lengths, and each cell a score or none
 pub record Shape (cells : List ℕ) (m n : ℕ) (pairing owner prices discounts : List ℕ) : Type 0 where
   pub cells-long : length cells ≡ n * m
@@ -158,7 +162,7 @@ pub record Endable (m closed : ℕ) (labels closings : List ℕ) : Type 0 where
 
 -- what it gives: next is free and is closed, at its label; or there is no next, and leaver is left out
 pub record EndsAt (m leaving leaver closed next : ℕ) (labels closings closings′ : List ℕ) (reach report left : ℕ) : Type 0 where
-  pub free : next < m → (reach ≡ at labels next) × ((report ≡ next) × (closings′ ≡ set closings next (far + closed)))
+  pub free : next < m → (reach ≡ at labels next) × ((report ≡ next) × (closings′ ≡ closedAt closings next closed))
   pub nowhere : m ≤ next → (reach ≡ leaving) × ((report ≡ none) × ((left ≡ leaver) × (closings′ ≡ closings)))
 
 -- what a search finds: labels, and the label reach, at which a free report is reached or a track is left out

@@ -1,6 +1,6 @@
 -- Slacks: taken in track by track, spent when all pairs rise, and tightened after a search.
 use Prim.Native.Nat.{ℕ, _+_, _*_, _≤_, _<_}
-use mathlib.Core.Path.{_≡_, ap, sym, subst, _∙_}
+use mathlib.Core.Path.{_≡_, refl, ap, sym, subst, _∙_}
 use mathlib.Core.List.{List}
 use mathlib.Core.Logic.{inl, inr, ⊎-elim}
 use native.Mathlib.Omega.{arith}
@@ -11,7 +11,7 @@ use Rattle.matching.specs.Pairing.{none, leftOut}
 use Rattle.passes.specs.Cells.{far}
 use Rattle.lifting.specs.Slack.{Row, Bounded, Raised, Spent, Slacks, Tightened}
 use Rattle.paths.specs.State.{cell, Own, Good, Rooms, Inserted, Reached, Searchable}
-use Rattle.paths.proofs.Swap.{free-zero}
+use Rattle.paths.proofs.Swap.{reshaped, free-zero}
 use Rattle.paths.proofs.Rows.{row, row-length, row-at, row-end}
 use Rattle.queue.specs.State.{Slack, Lifting}
 
@@ -96,7 +96,7 @@ module _ (cells : List ℕ) (m n : ℕ) (pairing owner prices discounts slack : 
 
   good-now : Good cells m n pairing owner prices′ discounts′
   good-now = record {
-    shape = record { cells-long = G .shape .cells-long; pairing-long = G .shape .pairing-long; owner-long = G .shape .owner-long; prices-long = U .same-long ∙ G .shape .prices-long; discounts-long = W .same-long ∙ G .shape .discounts-long; tracks-few = G .shape .tracks-few; reports-few = G .shape .reports-few; cells-good = G .shape .cells-good };
+    shape = reshaped (G .shape) refl refl (U .same-long) (W .same-long);
     numbers = record {
       fair = fair-now;
       price-in = λ i h. ⊎-elim (λ z. omega (arith, price-unpaired i h z, G .numbers .price-in i h)) (λ p. omega (arith, price-paired i h (p .0), within-price i h)) (G .matched .paired i h);
