@@ -25,48 +25,48 @@ is-cell : (c : ℕ) → cellOk c ≡ true → IsCell c
 is-cell c e =
     ⊎-elim inr (λ d. inl (ltb-true c scoreEnd (or-second (eqb c none) (ltb c scoreEnd) e (ne-eqb c none d)))) (same-or c none)
 
-module _ (n m : ℕ) (s p u v : List ℕ) where
-  pub refuses : (k : ℕ) → k ≡ pairingRefusal n m s p u v → (k ≡ 0 → ⊥) → PairsSheet n m s p u v p u v (Refused k)
+module _ (n m : ℕ) (cells pairing prices discounts : List ℕ) where
+  pub refuses : (k : ℕ) → k ≡ pairingRefusal n m cells pairing prices discounts → (k ≡ 0 → ⊥) → PairsSheet n m cells pairing prices discounts pairing prices discounts (Refused k)
   unfolding answerOf
   refuses zero e d = absurd (d refl)
   refuses (suc k) e d =
       record { answered = ap answerOf e; refused = λ z. (refl, (refl, refl)); served = λ z. absurd (d (e ∙ z)) }
 
-  module _ (e : pairingRefusal n m s p u v ≡ 0) where
-    pub sizes : Sizes n m (length s) (length p) (length u) (length v)
-    sizes = not-refused n m s (length p) (length u) (length v) e .0
+  module _ (e : pairingRefusal n m cells pairing prices discounts ≡ 0) where
+    pub sizes : Sizes n m (length cells) (length pairing) (length prices) (length discounts)
+    sizes = not-refused n m cells (length pairing) (length prices) (length discounts) e .0
 
-    cells : (k : ℕ) → k < n * m → IsCell (at s k)
+    cells-good : (k : ℕ) → k < n * m → IsCell (at cells k)
     unfolding cellsOk
-    cells k h =
-        let r = not-refused n m s (length p) (length u) (length v) e .1 in
-        is-cell (at s k) (each-at (λ i. cellOk (at s i)) (n * m) k (cells-ok n m s r) h)
+    cells-good k h =
+        let r = not-refused n m cells (length pairing) (length prices) (length discounts) e .1 in
+        is-cell (at cells k) (each-at (λ i. cellOk (at cells i)) (n * m) k (cells-ok n m cells r) h)
 
     abbrev own : List ℕ
-    own = take (n * m) s
+    own = take (n * m) cells
 
     own-length : length own ≡ n * m
-    own-length = length-take-le (n * m) s (sizes .cells-long)
+    own-length = length-take-le (n * m) cells (sizes .cells-long)
 
-    prices-length : length (take n u) ≡ n
-    prices-length = length-take-le n u (sizes .prices-long)
+    prices-length : length (take n prices) ≡ n
+    prices-length = length-take-le n prices (sizes .prices-long)
 
-    own-at : (k : ℕ) → k < n * m → at own k ≡ at s k
-    own-at k h = getD-take (n * m) s k 0 h
+    own-at : (k : ℕ) → k < n * m → at own k ≡ at cells k
+    own-at k h = getD-take (n * m) cells k 0 h
 
-    pub tested : Tested own m (take n p) (take n u) (take m v)
+    pub tested : Tested own m (take n pairing) (take n prices) (take m discounts)
     tested =
         record {
           cells-long = own-length ∙ ap (λ (x : ℕ). x * m) (sym prices-length);
-          pairing-long = length-take-le n p (sizes .pairing-long) ∙ sym prices-length;
-          discounts-long = length-take-le m v (sizes .discounts-long);
+          pairing-long = length-take-le n pairing (sizes .pairing-long) ∙ sym prices-length;
+          discounts-long = length-take-le m discounts (sizes .discounts-long);
           tracks-few = omega (arith, prices-length, sizes .tracks-few);
           reports-few = omega (arith, sizes .reports-few);
-          cells-good = λ k h. let g : k < n * m = omega (arith, own-length) in rw (own-at k g) (cells k g);
+          cells-good = λ k h. let g : k < n * m = omega (arith, own-length) in rw (own-at k g) (cells-good k g);
         }
 
-    module _ (P U D : List ℕ) (C : Certified own m n P U D) where
-      fits : Fits n m own P U D
+    module _ (pairing′ prices′ discounts′ : List ℕ) (C : Certified own m n pairing′ prices′ discounts′) where
+      fits : Fits n m own pairing′ prices′ discounts′
       fits =
           record {
             tracks-few = sizes .tracks-few;
@@ -78,41 +78,41 @@ module _ (n m : ℕ) (s p u v : List ℕ) where
           }
 
       -- what is written, and what stood beyond
-      fits-whole : Fits n m s (P ++ drop n p) (U ++ drop n u) (D ++ drop m v)
+      fits-whole : Fits n m cells (pairing′ ++ drop n pairing) (prices′ ++ drop n prices) (discounts′ ++ drop m discounts)
       fits-whole =
           record {
             tracks-few = sizes .tracks-few;
             reports-few = sizes .reports-few;
             cells-long = sizes .cells-long;
-            pairing-long = omega (arith, C .pairing-long, length-append P (drop n p));
-            prices-long = omega (arith, C .prices-long, length-append U (drop n u));
-            discounts-long = omega (arith, C .discounts-long, length-append D (drop m v));
+            pairing-long = omega (arith, C .pairing-long, length-append pairing′ (drop n pairing));
+            prices-long = omega (arith, C .prices-long, length-append prices′ (drop n prices));
+            discounts-long = omega (arith, C .discounts-long, length-append discounts′ (drop m discounts));
           }
 
-      first : (k : ℕ) (X Y : List ℕ) → length X ≡ k → (i : ℕ) → i < k → at X i ≡ at (X ++ Y) i
-      first k X Y l i h = sym (List·getD-append X Y 0 i (omega arith))
+      first : (k : ℕ) (xs ys : List ℕ) → length xs ≡ k → (i : ℕ) → i < k → at xs i ≡ at (xs ++ ys) i
+      first k xs ys l i h = sym (List·getD-append xs ys 0 i (omega arith))
 
-      accepted : checkAnswer n m s (P ++ drop n p) (U ++ drop n u) (D ++ drop m v) ≡ 0
+      accepted : checkAnswer n m cells (pairing′ ++ drop n pairing) (prices′ ++ drop n prices) (discounts′ ++ drop m discounts) ≡ 0
       accepted =
           sym
-          (beyond-is-not-read n m own s P (P ++ drop n p) U (U ++ drop n u) D (D ++ drop m v) fits fits-whole own-at
-          (first n P (drop n p) (C .pairing-long)) (first n U (drop n u) (C .prices-long)) (first m D (drop m v) (C .discounts-long)))
-          ∙ certificate-zero n m own P U D fits (C .shown)
+          (beyond-is-not-read n m own cells pairing′ (pairing′ ++ drop n pairing) prices′ (prices′ ++ drop n prices) discounts′ (discounts′ ++ drop m discounts) fits fits-whole own-at
+          (first n pairing′ (drop n pairing) (C .pairing-long)) (first n prices′ (drop n prices) (C .prices-long)) (first m discounts′ (drop m discounts) (C .discounts-long)))
+          ∙ certificate-zero n m own pairing′ prices′ discounts′ fits (C .shown)
 
-      served : SheetPaired n m s p u v (P ++ drop n p) (U ++ drop n u) (D ++ drop m v)
+      served : SheetPaired n m cells pairing prices discounts (pairing′ ++ drop n pairing) (prices′ ++ drop n prices) (discounts′ ++ drop m discounts)
       served =
           record {
             accepted = accepted;
-            pairing-beyond = drop-at P (drop n p) n (C .pairing-long);
-            prices-beyond = drop-at U (drop n u) n (C .prices-long);
-            discounts-beyond = drop-at D (drop m v) m (C .discounts-long);
+            pairing-beyond = drop-at pairing′ (drop n pairing) n (C .pairing-long);
+            prices-beyond = drop-at prices′ (drop n prices) n (C .prices-long);
+            discounts-beyond = drop-at discounts′ (drop m discounts) m (C .discounts-long);
           }
 
-    pub serves : (P U D : List ℕ) → Certified own m (length (take n u)) P U D → PairsSheet n m s p u v (P ++ drop n p) (U ++ drop n u) (D ++ drop m v) Done
+    pub serves : (pairing′ prices′ discounts′ : List ℕ) → Certified own m (length (take n prices)) pairing′ prices′ discounts′ → PairsSheet n m cells pairing prices discounts (pairing′ ++ drop n pairing) (prices′ ++ drop n prices) (discounts′ ++ drop m discounts) Done
     unfolding answerOf
-    serves P U D C =
+    serves pairing′ prices′ discounts′ C =
         record {
           answered = sym (ap answerOf e);
           refused = λ d. absurd (d e);
-          served = λ z. served P U D (rw prices-length at C);
+          served = λ z. served pairing′ prices′ discounts′ (rw prices-length at C);
         }

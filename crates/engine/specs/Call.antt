@@ -9,7 +9,7 @@ use Rattle.engine.specs.declared.Paired.the-variants.{Refused, Done}
 
 -- the number of the refusal, 21 then 22, or 0: by n tracks, m reports, the sheet's cells and the lengths of the result lists
 abbrev pub pairingRefusal : (n m : ℕ) (cells pairing prices discounts : List ℕ) → ℕ
-pairingRefusal n m cells p u v = sheetRefusal n m cells (length p) (length u) (length v) 0
+pairingRefusal n m cells pairing prices discounts = sheetRefusal n m cells (length pairing) (length prices) (length discounts) 0
 
 -- the answer that stands for a number
 unfoldable pub answerOf : ℕ → Paired
@@ -17,14 +17,14 @@ answerOf zero = Done
 answerOf (suc k) = Refused (suc k)
 
 -- a call that is served: the check accepts what is written, and beyond the first entries each list is as before
-pub record SheetPaired (n m : ℕ) (cells p u v p′ u′ v′ : List ℕ) : Type 0 where
-  pub accepted : checkAnswer n m cells p′ u′ v′ ≡ 0
-  pub pairing-beyond : drop n p′ ≡ drop n p
-  pub prices-beyond : drop n u′ ≡ drop n u
-  pub discounts-beyond : drop m v′ ≡ drop m v
+pub record SheetPaired (n m : ℕ) (cells pairing prices discounts pairing′ prices′ discounts′ : List ℕ) : Type 0 where
+  pub accepted : checkAnswer n m cells pairing′ prices′ discounts′ ≡ 0
+  pub pairing-beyond : drop n pairing′ ≡ drop n pairing
+  pub prices-beyond : drop n prices′ ≡ drop n prices
+  pub discounts-beyond : drop m discounts′ ≡ drop m discounts
 
--- the lists p, u, v (pairing, prices, discounts) before the call, and p′, u′, v′ after it
-pub record PairsSheet (n m : ℕ) (cells p u v p′ u′ v′ : List ℕ) (answer : Paired) : Type 0 where
-  pub answered : answer ≡ answerOf (pairingRefusal n m cells p u v)
-  pub refused : (pairingRefusal n m cells p u v ≡ 0 → ⊥) → (p′ ≡ p) × ((u′ ≡ u) × (v′ ≡ v))
-  pub served : pairingRefusal n m cells p u v ≡ 0 → SheetPaired n m cells p u v p′ u′ v′
+-- the lists before the call, and after it
+pub record PairsSheet (n m : ℕ) (cells pairing prices discounts pairing′ prices′ discounts′ : List ℕ) (answer : Paired) : Type 0 where
+  pub answered : answer ≡ answerOf (pairingRefusal n m cells pairing prices discounts)
+  pub refused : (pairingRefusal n m cells pairing prices discounts ≡ 0 → ⊥) → (pairing′ ≡ pairing) × ((prices′ ≡ prices) × (discounts′ ≡ discounts))
+  pub served : pairingRefusal n m cells pairing prices discounts ≡ 0 → SheetPaired n m cells pairing prices discounts pairing′ prices′ discounts′

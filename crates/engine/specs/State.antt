@@ -24,15 +24,18 @@ pub record Contest (cells : List ℕ) (m track report : ℕ) (pairing owner pric
   pub admissible : cell cells m track report < far
   pub tight : at prices track ≡ cell cells m track report + at discounts report
 
-pub record Claimed (cells : List ℕ) (m n track : ℕ) (pairing pairing' owner' prices' discounts : List ℕ) : Type 0 where
-  pub good : Good cells m n pairing' owner' prices' discounts
-  pub others : (i : ℕ) → (i ≡ track → ⊥) → at pairing i ≡ none → at pairing' i ≡ none
+-- a track has its price, and a report where it got one; the others that had none have none
+pub record Claimed (cells : List ℕ) (m n track : ℕ) (pairing pairing′ owner′ prices′ discounts : List ℕ) : Type 0 where
+  pub good : Good cells m n pairing′ owner′ prices′ discounts
+  pub others : (i : ℕ) → (i ≡ track → ⊥) → at pairing i ≡ none → at pairing′ i ≡ none
 
+-- the lists of the call, and the working lists
 pub record WorkRoom (cells : List ℕ) (m n : ℕ) (pairing owner prices discounts labels via closings slack : List ℕ) : Type 0 where
   pub shape : Shape cells m n pairing owner prices discounts
   pub rooms : Rooms m labels via closings
   pub slack-long : length slack ≡ m
 
+-- any track, and the working lists
 pub record Visit (cells : List ℕ) (m track : ℕ) (pairing owner prices discounts labels via closings : List ℕ) : Type 0 where
   pub good : Good cells m (length prices) pairing owner prices discounts
   pub track-in : track < length prices

@@ -2,10 +2,10 @@
 // one that gets none is inserted by one search.
 use matching::LEFT_OUT;
 use matching::NONE;
+use matching::index;
 use passes::fill;
-use passes::idx;
+use passes::free_report;
 use passes::row_best;
-use passes::seat;
 use paths::insert;
 use queue::take_turns;
 ghost use mathlib.Core.Path.{_≡_};
@@ -40,17 +40,17 @@ fn oust(
     requires { ⌜ Contest (now sheet) reports track report (now pairing) (now owner) (now prices) (now discounts) ⌝ }
     ensures { λ _. ⌜ Claimed (now (sheet .entry)) reports (length (now (prices .entry))) track (now (pairing .entry)) (now (pairing .exit)) (now (owner .exit)) (now (prices .entry)) (now (discounts .entry)) ⌝ }
 {
-    let x = idx(track);
-    let j = idx(report);
-    let y = idx(owner[j]);
-    if y >= prices.len() {
+    let place = index(track);
+    let j = index(report);
+    let loser = index(owner[j]);
+    if loser >= prices.len() {
         return;
     }
-    if prices[y] >= prices[x] {
+    if prices[loser] >= prices[place] {
         return;
     }
-    pairing[y] = NONE;
-    pairing[x] = report;
+    pairing[loser] = NONE;
+    pairing[place] = report;
     owner[j] = track;
 }
 
@@ -67,23 +67,32 @@ fn claim(
     requires { ⌜ Fresh (now sheet) reports track (now pairing) (now owner) (now prices) (now discounts) ⌝ }
     ensures { λ _. ⌜ Claimed (now (sheet .entry)) reports (length (now (prices .entry))) track (now (pairing .entry)) (now (pairing .exit)) (now (owner .exit)) (now (prices .exit)) (now (discounts .entry)) ⌝ }
 {
-    let x = idx(track);
-    let a = x * reports;
-    let e = a + reports;
-    let c = &sheet[a..e];
-    let b = row_best(c);
-    let v = b.score;
-    let h = b.report;
-    prices[x] = v;
-    if v >= LEFT_OUT {
+    let place = index(track);
+    let row = place * reports;
+    let row_end = row + reports;
+    let cells = &sheet[row..row_end];
+    let best = row_best(cells);
+    let score = best.score;
+    let report = best.report;
+    prices[place] = score;
+    if score >= LEFT_OUT {
         return;
     }
-    let j = seat(c, owner, v, h);
+    let j = free_report(cells, owner, score, report);
     if j >= reports {
-        oust(sheet, reports, track, h, pairing, owner, prices, discounts);
+        oust(
+            sheet,
+            reports,
+            track,
+            report,
+            pairing,
+            owner,
+            prices,
+            discounts,
+        );
         return;
     }
-    pairing[x] = j as u32;
+    pairing[place] = j as u32;
     owner[j] = track;
 }
 
@@ -130,13 +139,13 @@ fn visit(
     requires { ⌜ Visit (now sheet) reports track (now pairing) (now owner) (now prices) (now discounts) (now labels) (now via) (now closings) ⌝ }
     ensures { λ _. ⌜ Inserted (now (sheet .entry)) reports (length (now (prices .entry))) track (now (pairing .entry)) (now (prices .entry)) (now (pairing .exit)) (now (owner .exit)) (now (prices .exit)) (now (discounts .exit)) ⌝ }
 {
-    let x = idx(track);
-    let p = pairing[x];
-    if p != NONE {
+    let place = index(track);
+    let report = pairing[place];
+    if report != NONE {
         return;
     }
-    let v = prices[x];
-    if v >= LEFT_OUT {
+    let price = prices[place];
+    if price >= LEFT_OUT {
         return;
     }
     insert(
@@ -203,6 +212,7 @@ fn match_all(
     );
 }
 
+// The whole answer, in working lists that are lent.
 fn assign(
     sheet: &[u32],
     reports: usize,

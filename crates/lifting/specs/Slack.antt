@@ -5,17 +5,16 @@ use mathlib.Core.List.{List}
 use lib.ListN.{length}
 use Rattle.laws.specs.Lists.{at}
 use Rattle.matching.specs.Pairing.{none, leftOut}
-use Rattle.passes.specs.Cells.{IsCell, far}
+use Rattle.passes.specs.Cells.{IsCell, far, Searched}
 
 -- a list of numbers that a price may have
 abbrev pub Small : List ℕ → Type 0
 Small a = (k : ℕ) → k < length a → at a k ≤ leftOut
 
--- labels, their end d, and slacks
-pub record Slacks (labels : List ℕ) (d : ℕ) (slack : List ℕ) : Type 0 where
+-- what a search leaves, and slacks
+pub record Slacks (labels : List ℕ) (reach : ℕ) (slack : List ℕ) : Type 0 where
   pub same : length labels ≡ length slack
-  pub end : d ≤ leftOut
-  pub labels-small : Small labels
+  pub searched : Searched labels reach
   pub small : Small slack
 
 -- a row of the sheet whose track has this price, and slacks
@@ -25,27 +24,30 @@ pub record Row (cells : List ℕ) (price : ℕ) (slack : List ℕ) : Type 0 wher
   pub top : price ≤ leftOut
   pub small : Small slack
 
-pub record Kept (cells : List ℕ) (price : ℕ) (slack slack' : List ℕ) : Type 0 where
-  pub slack-long : length slack' ≡ length slack
-  pub less : (k : ℕ) → k < length slack → at slack' k ≤ at slack k
-  pub room : (k : ℕ) → k < length slack → at cells k < far → at slack' k ≤ at cells k - price
+-- and what the track leaves of them
+pub record Bounded (cells : List ℕ) (price : ℕ) (slack slack′ : List ℕ) : Type 0 where
+  pub slack-long : length slack′ ≡ length slack
+  pub less : (k : ℕ) → k < length slack → at slack′ k ≤ at slack k
+  pub room : (k : ℕ) → k < length slack → at cells k < far → at slack′ k ≤ at cells k - price
 
-pub record Tightened (labels : List ℕ) (d : ℕ) (slack slack' : List ℕ) : Type 0 where
-  pub slack-long : length slack' ≡ length slack
-  pub less : (k : ℕ) → k < length slack → at slack' k ≤ at slack k
-  pub room : (k : ℕ) → k < length slack → at slack' k ≤ at labels k - d
+-- and what the search leaves of them
+pub record Tightened (labels : List ℕ) (reach : ℕ) (slack slack′ : List ℕ) : Type 0 where
+  pub slack-long : length slack′ ≡ length slack
+  pub less : (k : ℕ) → k < length slack → at slack′ k ≤ at slack k
+  pub room : (k : ℕ) → k < length slack → at slack′ k ≤ at labels k - reach
 
 -- owners beside slacks
 pub record Beside (owner slack : List ℕ) : Type 0 where
   pub same : length owner ≡ length slack
   pub small : Small slack
 
-pub record Spent (x : ℕ) (slack slack' : List ℕ) : Type 0 where
-  pub slack-long : length slack' ≡ length slack
-  pub left : (k : ℕ) → k < length slack → at slack' k ≡ at slack k - x
+-- what a rise of all pairs leaves of the slacks
+pub record Spent (rise : ℕ) (slack slack′ : List ℕ) : Type 0 where
+  pub slack-long : length slack′ ≡ length slack
+  pub left : (k : ℕ) → k < length slack → at slack′ k ≡ at slack k - rise
 
--- a rises by x where the other list has a partner
-pub record Raised (other : List ℕ) (x : ℕ) (a a' : List ℕ) : Type 0 where
-  pub same-long : length a' ≡ length a
-  pub alone : (k : ℕ) → k < length a → at other k ≡ none → at a' k ≡ at a k
-  pub paired : (k : ℕ) → k < length a → (at other k ≡ none → ⊥) → at a' k ≡ at a k + x
+-- a rises where the other list has a partner
+pub record Raised (other : List ℕ) (rise : ℕ) (a a′ : List ℕ) : Type 0 where
+  pub same-long : length a′ ≡ length a
+  pub alone : (k : ℕ) → k < length a → at other k ≡ none → at a′ k ≡ at a k
+  pub paired : (k : ℕ) → k < length a → (at other k ≡ none → ⊥) → at a′ k ≡ at a k + rise

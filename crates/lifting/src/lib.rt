@@ -3,34 +3,24 @@
 use matching::LEFT_OUT;
 use matching::NONE;
 use passes::FAR;
-use passes::low;
+use passes::KEY_PLACES;
+use passes::KEY_SCORES;
+use passes::excess;
+use passes::lesser;
 ghost use mathlib.Core.Path.{_≡_};
 ghost use Prim.Native.Nat.{ℕ, _+_, _-_, _%_, _<_, _≤_, _^_};
 ghost use lib.ListN.{length};
 ghost use Rattle.laws.specs.Lists.{at};
 ghost use Rattle.matching.specs.Pairing.{none, leftOut, mostTracks};
-ghost use Rattle.passes.specs.Cells.{IsCell, far};
-ghost use Rattle.lifting.specs.Slack.{Small, Slacks, Row, Kept, Tightened, Spent, Beside, Raised};
-
-// A price in the order of turns: below this, and its track below the next.
-const TURN_PRICES: u32 = 8388608;
-
-const TURN_TRACKS: u32 = 256;
+ghost use Rattle.passes.specs.Cells.{IsCell, far, keyPlaces};
+ghost use Rattle.lifting.specs.Slack.{Small, Slacks, Row, Bounded, Tightened, Spent, Beside, Raised};
 
 // Both are under 2^31: a signed comparison is one instruction in a vector.
-fn high(a: u32, b: u32) -> u32
+fn greater(a: u32, b: u32) -> u32
     requires { ⌜ (a < 2 ^ 31) × (b < 2 ^ 31) ⌝ }
     ensures { λ r. ⌜ (a ≤ r) × ((b ≤ r) × ((a < b → r ≡ b) × (b ≤ a → r ≡ a))) ⌝ }
 {
     if (a as i32) < (b as i32) { b } else { a }
-}
-
-// d - x, or 0.
-fn beyond(d: u32, x: u32) -> u32
-    requires { ⌜ (d < 2 ^ 31) × (x < 2 ^ 31) ⌝ }
-    ensures { λ r. ⌜ r ≡ d - x ⌝ }
-{
-    if (x as i32) < (d as i32) { d - x } else { 0 }
 }
 
 // How far a price may rise to a score: `none` is far away.
@@ -38,38 +28,39 @@ fn gap(cell: u32, price: u32) -> u32
     requires { ⌜ IsCell cell × (price ≤ leftOut) ⌝ }
     ensures { λ r. ⌜ (r < 2 ^ 31) × (cell < far → r ≡ cell - price) ⌝ }
 {
-    beyond(cell % FAR, price)
+    excess(cell % FAR, price)
 }
 
-// A track of this price is in a pair.
-pub fn keep(cells: &[u32], price: u32, slack: &mut [u32])
+// A track of this price is in a pair: it bounds the slack of each report of its row.
+pub fn bound_slack(cells: &[u32], price: u32, slack: &mut [u32])
     requires { ⌜ Row (now cells) price (now slack) ⌝ }
-    ensures { λ _. ⌜ Kept (now (cells .entry)) price (now (slack .entry)) (now (slack .exit)) ⌝ }
+    ensures { λ _. ⌜ Bounded (now (cells .entry)) price (now (slack .entry)) (now (slack .exit)) ⌝ }
 {
     let mut j: usize = 0;
     while j < slack.len() {
-        slack[j] = low(gap(cells[j], price), slack[j]);
+        slack[j] = lesser(gap(cells[j], price), slack[j]);
         j += 1;
     }
 }
 
-// After a search that ended at d: a track that it went through has risen, and reaches report j as the search did.
-pub fn tighten(labels: &[u32], d: u32, slack: &mut [u32])
-    requires { ⌜ Slacks (now labels) d (now slack) ⌝ }
-    ensures { λ _. ⌜ Tightened (now (labels .entry)) d (now (slack .entry)) (now (slack .exit)) ⌝ }
+// After a search that ended at reach: a track that it went through has risen, and reaches report j as the search did.
+pub fn tighten(labels: &[u32], reach: u32, slack: &mut [u32])
+    requires { ⌜ Slacks (now labels) reach (now slack) ⌝ }
+    ensures { λ _. ⌜ Tightened (now (labels .entry)) reach (now (slack .entry)) (now (slack .exit)) ⌝ }
 {
     let mut j: usize = 0;
     while j < slack.len() {
-        slack[j] = low(beyond(labels[j], d), slack[j]);
+        slack[j] = lesser(excess(labels[j], reach), slack[j]);
         j += 1;
     }
 }
 
-fn if_free(owner: u32, x: u32) -> u32
-    requires { ⌜ x ≤ leftOut ⌝ }
-    ensures { λ r. ⌜ (r ≤ leftOut) × (owner ≡ none → r ≡ x) ⌝ }
+// A report that a track has sets no limit.
+fn if_free(owner: u32, slack: u32) -> u32
+    requires { ⌜ slack ≤ leftOut ⌝ }
+    ensures { λ r. ⌜ (r ≤ leftOut) × (owner ≡ none → r ≡ slack) ⌝ }
 {
-    if owner == NONE { x } else { LEFT_OUT }
+    if owner == NONE { slack } else { LEFT_OUT }
 }
 
 // The least slack of a free report.
@@ -80,55 +71,58 @@ pub fn least_slack(owner: &[u32], slack: &[u32]) -> u32
     let mut best = LEFT_OUT;
     let mut j: usize = 0;
     while j < slack.len() {
-        best = low(if_free(owner[j], slack[j]), best);
+        best = lesser(if_free(owner[j], slack[j]), best);
         j += 1;
     }
     best
 }
 
-// The prices of all pairs have risen by x.
-pub fn spend(slack: &mut [u32], x: u32)
-    requires { ⌜ (x ≤ leftOut) × Small (now slack) ⌝ }
-    ensures { λ _. ⌜ Spent x (now (slack .entry)) (now (slack .exit)) ⌝ }
+// The prices of all pairs have risen by this much.
+pub fn spend(slack: &mut [u32], rise: u32)
+    requires { ⌜ (rise ≤ leftOut) × Small (now slack) ⌝ }
+    ensures { λ _. ⌜ Spent rise (now (slack .entry)) (now (slack .exit)) ⌝ }
 {
     let mut j: usize = 0;
     while j < slack.len() {
-        slack[j] = beyond(slack[j], x);
+        slack[j] = excess(slack[j], rise);
         j += 1;
     }
 }
 
-fn if_paired(other: u32, x: u32) -> u32
-    ensures { λ r. ⌜ (r ≤ x) × ((other ≡ none → r ≡ 0) × ((other ≡ none → ⊥) → r ≡ x)) ⌝ }
+// Only what is in a pair rises.
+fn if_paired(other: u32, rise: u32) -> u32
+    ensures { λ r. ⌜ (r ≤ rise) × ((other ≡ none → r ≡ 0) × ((other ≡ none → ⊥) → r ≡ rise)) ⌝ }
 {
-    if other == NONE { 0 } else { x }
+    if other == NONE { 0 } else { rise }
 }
 
-// What is in a pair rises by x: prices beside the pairing, discounts beside the owners.
-pub fn raise_paired(other: &[u32], x: u32, a: &mut [u32])
-    requires { ⌜ (length (now other) ≡ length (now a)) × ((k : ℕ) → k < length (now a) → at (now a) k + x < 2 ^ 32) ⌝ }
-    ensures { λ _. ⌜ Raised (now (other .entry)) x (now (a .entry)) (now (a .exit)) ⌝ }
+// What is in a pair rises: prices beside the pairing, discounts beside the owners.
+pub fn raise_paired(other: &[u32], rise: u32, a: &mut [u32])
+    requires { ⌜ (length (now other) ≡ length (now a)) × ((k : ℕ) → k < length (now a) → at (now a) k + rise < 2 ^ 32) ⌝ }
+    ensures { λ _. ⌜ Raised (now (other .entry)) rise (now (a .entry)) (now (a .exit)) ⌝ }
 {
     let mut j: usize = 0;
     while j < a.len() {
-        a[j] = a[j] + if_paired(other[j], x);
+        a[j] = a[j] + if_paired(other[j], rise);
         j += 1;
     }
 }
 
-pub fn highest(a: &[u32]) -> u32
-    requires { ⌜ Small (now a) ⌝ }
-    ensures { λ r. ⌜ (r ≤ leftOut) × ((k : ℕ) → k < length (now (a .entry)) → at (now (a .entry)) k ≤ r) ⌝ }
+// The highest price.
+pub fn highest(prices: &[u32]) -> u32
+    requires { ⌜ Small (now prices) ⌝ }
+    ensures { λ r. ⌜ (r ≤ leftOut) × ((k : ℕ) → k < length (now (prices .entry)) → at (now (prices .entry)) k ≤ r) ⌝ }
 {
     let mut best: u32 = 0;
     let mut j: usize = 0;
-    while j < a.len() {
-        best = high(a[j], best);
+    while j < prices.len() {
+        best = greater(prices[j], best);
         j += 1;
     }
     best
 }
 
+// A track with a report, or left out at the full price, takes no turn.
 fn if_unpaired(pairing: u32, price: u32, turn: u32) -> u32
     requires { ⌜ price ≤ leftOut ⌝ }
     ensures { λ r. ⌜ (r ≤ turn) × (0 < r → (r ≡ turn) × (pairing ≡ none)) ⌝ }
@@ -141,11 +135,12 @@ fn if_unpaired(pairing: u32, price: u32, turn: u32) -> u32
     0
 }
 
+// A price and its track in one key, and one more: 0 is no turn.
 fn turn_of(price: u32, track: u32) -> u32
     requires { ⌜ track < mostTracks ⌝ }
-    ensures { λ r. ⌜ (r < 2 ^ 31) × ((r - 1) % 256 ≡ track) ⌝ }
+    ensures { λ r. ⌜ (r < 2 ^ 31) × ((r - 1) % keyPlaces ≡ track) ⌝ }
 {
-    price % TURN_PRICES * TURN_TRACKS + track + 1
+    price % KEY_SCORES * KEY_PLACES + track + 1
 }
 
 // One more than the track of highest price, the most exacting, of those without a report; 0 if there is none.
@@ -156,12 +151,15 @@ pub fn next_turn(pairing: &[u32], prices: &[u32]) -> u32
     let mut best: u32 = 0;
     let mut j: usize = 0;
     while j < prices.len() {
-        let v = prices[j];
-        best = high(if_unpaired(pairing[j], v, turn_of(v, j as u32)), best);
+        let price = prices[j];
+        best = greater(
+            if_unpaired(pairing[j], price, turn_of(price, j as u32)),
+            best,
+        );
         j += 1;
     }
     if best == 0 {
         return 0;
     }
-    (best - 1) % TURN_TRACKS + 1
+    (best - 1) % KEY_PLACES + 1
 }

@@ -1,4 +1,4 @@
--- Signed tests of small numbers; score and report in one number.
+-- Signed tests of small numbers; a score or label and its report in one key.
 use Prim.Native.Nat.{ℕ, _+_, _*_, _/_, _%_, _≤_, _<_, _^_}
 use mathlib.Core.Path.{_≡_, refl, sym, subst}
 use mathlib.Core.Bool.{true, false, not}
@@ -14,7 +14,7 @@ use mir.Syntax.{w32}
 use mir.Val.{toZ}
 use mir.Facts.{toZ-pos}
 use Rattle.laws.proofs.Stores.{le-or-lt}
-use Rattle.passes.specs.Cells.{IsCell, key, Keyed, RowLeast, near}
+use Rattle.passes.specs.Cells.{IsCell, keyScores, keyPlaces, key, Keyed, RowLeast, near}
 
 module _ (a b : ℕ) (ha : a < 2 ^ 31) (hb : b < 2 ^ 31) where
   pub less-yes : ltZ (toZ w32 a) (toZ w32 b) ≡ true → a < b
@@ -23,54 +23,54 @@ module _ (a b : ℕ) (ha : a < 2 ^ 31) (hb : b < 2 ^ 31) where
   pub less-no : ltZ (toZ w32 a) (toZ w32 b) ≡ false → b ≤ a
   less-no t = nltb→le a b (subst (λ x. T (not x)) (sym (rw (toZ-pos w32 ha, toZ-pos w32 hb) at t)) tt)
 
-pub key-is : (c k : ℕ) → key c k ≡ c % 8388608 * 256 + k
+pub key-is : (cell k : ℕ) → key cell k ≡ cell % keyScores * keyPlaces + k
 unfolding key
-key-is c k = refl
+key-is cell k = refl
 
-high : (r a k : ℕ) → r ≡ a * 256 + k → k < 256 → r / 256 ≡ a
-high r a k e h = let p : r / 256 ≤ a = omega arith in
-    let q : a ≤ r / 256 = omega arith in
+whole-part : (r a k : ℕ) → r ≡ a * keyPlaces + k → k < keyPlaces → r / keyPlaces ≡ a
+whole-part r a k e h = let p : r / keyPlaces ≤ a = omega arith in
+    let q : a ≤ r / keyPlaces = omega arith in
     omega arith
 
-module _ (c : List ℕ) (small : length c ≤ 256) (cs : (k : ℕ) → k < length c → IsCell (at c k)) (r : ℕ) (K : Keyed c r) where
+module _ (cells : List ℕ) (few : length cells ≤ keyPlaces) (cells-good : (k : ℕ) → k < length cells → IsCell (at cells k)) (r : ℕ) (K : Keyed cells r) where
   -- no score at all
-  pub best-none : scoreEnd ≤ r / 256 → RowLeast c (leftOut) 0
+  pub best-none : scoreEnd ≤ r / keyPlaces → RowLeast cells leftOut 0
   best-none h = record {
     capped = omega arith;
-    below = λ k g. ⊎-elim (λ s. absurd (omega (arith, K .low k g, key-is (at c k) k))) (λ e. omega arith) (cs k g);
+    below = λ k g. ⊎-elim (λ s. absurd (omega (arith, K .below k g, key-is (at cells k) k))) (λ e. omega arith) (cells-good k g);
     met = λ g. absurd (omega arith);
   }
 
-  here : r / 256 < scoreEnd → (k : ℕ) → k < length c → r ≡ key (at c k) k → (r % 256 < length c) × (at c (r % 256) ≡ r / 256)
+  here : r / keyPlaces < scoreEnd → (k : ℕ) → k < length cells → r ≡ key (at cells k) k → (r % keyPlaces < length cells) × (at cells (r % keyPlaces) ≡ r / keyPlaces)
   here h k g e = ⊎-elim
-      (λ (s : at c k < scoreEnd).
-      let d : r / 256 ≡ at c k = high r (at c k) k (omega (arith, key-is (at c k) k)) (omega arith) in
-      let q : r % 256 ≡ k = omega (arith, key-is (at c k) k) in
+      (λ (s : at cells k < scoreEnd).
+      let d : r / keyPlaces ≡ at cells k = whole-part r (at cells k) k (omega (arith, key-is (at cells k) k)) (omega arith) in
+      let q : r % keyPlaces ≡ k = omega (arith, key-is (at cells k) k) in
       rw q (g, sym d))
-      (λ (z : at c k ≡ none). absurd (omega (arith, key-is (at c k) k))) (cs k g)
+      (λ (z : at cells k ≡ none). absurd (omega (arith, key-is (at cells k) k))) (cells-good k g)
 
-  pub best-one : r / 256 < scoreEnd → RowLeast c (r / 256) (r % 256)
+  pub best-one : r / keyPlaces < scoreEnd → RowLeast cells (r / keyPlaces) (r % keyPlaces)
   best-one h = record {
     capped = omega arith;
-    below = λ k g. omega (arith, K .low k g, key-is (at c k) k);
+    below = λ k g. omega (arith, K .below k g, key-is (at cells k) k);
     met = λ g. ⊎-elim (λ e. absurd (omega arith)) (λ s. here h (s .0) (s .1 .0) (s .1 .1)) (K .met);
   }
 
--- ---- labels and reports in one number
+-- ---- labels and reports in one key
 
-pub near-low : (r b x : ℕ) → r ≤ b → b / 256 ≤ x → r / 256 ≤ x
+pub near-low : (r b x : ℕ) → r ≤ b → b / keyPlaces ≤ x → r / keyPlaces ≤ x
 near-low r b x h g = omega arith
 
-pub near-here : (r b x j : ℕ) → r ≤ b → j < 256 → (x < near → b ≡ x * 256 + j) → (near ≤ x → b ≡ near * 256 + j) → r / 256 ≤ x
+pub near-here : (r b x j : ℕ) → r ≤ b → j < keyPlaces → (x < near → b ≡ x * keyPlaces + j) → (near ≤ x → b ≡ near * keyPlaces + j) → r / keyPlaces ≤ x
 near-here r b x j h s n f = ⊎-elim (λ l. omega (arith, f l)) (λ l. omega (arith, n l)) (le-or-lt near x)
 
-pub near-met : (labels closings : List ℕ) (j r : ℕ) → j < 256 → j < length labels
-    → (at labels j + at closings j < near → r ≡ (at labels j + at closings j) * 256 + j) → (near ≤ at labels j + at closings j → r ≡ near * 256 + j)
-    → r / 256 < near → (r % 256 < length labels) × (at labels (r % 256) + at closings (r % 256) ≡ r / 256)
+pub near-met : (labels closings : List ℕ) (j r : ℕ) → j < keyPlaces → j < length labels
+    → (at labels j + at closings j < near → r ≡ (at labels j + at closings j) * keyPlaces + j) → (near ≤ at labels j + at closings j → r ≡ near * keyPlaces + j)
+    → r / keyPlaces < near → (r % keyPlaces < length labels) × (at labels (r % keyPlaces) + at closings (r % keyPlaces) ≡ r / keyPlaces)
 near-met labels closings j r s h n f g = ⊎-elim
     (λ (l : near ≤ at labels j + at closings j). absurd (omega (arith, f l)))
     (λ (l : at labels j + at closings j < near).
-    let d : r / 256 ≡ at labels j + at closings j = high r (at labels j + at closings j) j (n l) s in
-    let q : r % 256 ≡ j = omega (arith, n l) in
+    let d : r / keyPlaces ≡ at labels j + at closings j = whole-part r (at labels j + at closings j) j (n l) s in
+    let q : r % keyPlaces ≡ j = omega (arith, n l) in
     rw q (h, sym d))
     (le-or-lt near (at labels j + at closings j))

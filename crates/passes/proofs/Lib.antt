@@ -1,4 +1,4 @@
--- What the passes' proofs share: an offer, keys of score and report, prices that rise, and a search from lo on.
+-- What the passes' proofs share: an offer, keys of score and report, prices that rise, and a search from front on.
 pub mod From
 pub mod Keys
 pub mod Offers

@@ -3,24 +3,25 @@
 use matching::LEFT_OUT;
 use matching::NONE;
 use matching::SCORE_END;
+use matching::index;
 ghost use mathlib.Core.Path.{_≡_};
 ghost use Prim.Native.Nat.{ℕ, _+_, _-_, _*_, _<_, _≤_, _^_};
 ghost use lib.ListN.{length};
 ghost use mathlib.Core.Logic.{_⊎_};
 ghost use Rattle.laws.specs.Lists.{at};
 ghost use Rattle.matching.specs.Pairing.{none, leftOut};
-ghost use Rattle.passes.specs.Cells.{IsCell, far, reportNumbers, key, Keyed, RowLeast, Fair, Relaxed, Labels, FromLabels, Low, Found, near, Near, Nearest, Paid, Lifted, PricesUp, DiscountsUp};
+ghost use Rattle.passes.specs.Cells.{IsCell, far, keyPlaces, key, Keyed, RowLeast, Fair, Relaxed, Labels, FromLabels, Low, Found, near, Near, Nearest, Searched, Paid, Lifted, PricesUp, DiscountsUp};
 
 // Above every label, and above what an admissible pair adds to one.
 pub const FAR: u32 = 1073741824;
-// More than the reports of a sheet: a score and its report fit one number.
-const REPORT_NUMBERS: u32 = 256;
+// A key is a score or price and the number of a report or track in one: the one is below this, the other below the next.
+pub const KEY_SCORES: u32 = 8388608;
 
-const KEY_SCORES: u32 = 8388608;
+pub const KEY_PLACES: u32 = 256;
 
-const LAST_KEY: u32 = 2147483647;
-// A label below this fits one number with its report.
-const NEAR: u32 = 8388607;
+const LAST_KEY: u32 = KEY_SCORES * KEY_PLACES - 1;
+// A label below this fits one key with its report.
+const NEAR: u32 = KEY_SCORES - 1;
 
 // The least score of a row, and a report that has it.
 pub struct Cheapest {
@@ -28,12 +29,7 @@ pub struct Cheapest {
     pub report: u32,
 }
 
-pub fn idx(x: u32) -> usize
-    ensures { λ r. ⌜ r ≡ x ⌝ }
-{
-    x as usize
-}
-
+// Every entry becomes v.
 pub fn fill(a: &mut [u32], v: u32)
     ensures { λ r. ⌜ (length (now (a .exit)) ≡ length (now (a .entry))) × ((k : ℕ) → k < length (now (a .entry)) → at (now (a .exit)) k ≡ v) ⌝ }
 {
@@ -52,31 +48,28 @@ fn offer(cell: u32, discount: u32, label: u32, price: u32) -> u32
     cell % FAR + discount - price + label
 }
 
+// Here and in the next two, a and b are under 2^31: a signed comparison is one instruction in a vector.
 pub fn lesser(a: u32, b: u32) -> u32
-    ensures { λ r. ⌜ (r ≤ a) × ((r ≤ b) × ((a < b → r ≡ a) × (b ≤ a → r ≡ b))) ⌝ }
-{
-    if a < b { a } else { b }
-}
-
-pub fn choose(a: u32, b: u32, x: u32, y: u32) -> u32
-    ensures { λ r. ⌜ (a < b → r ≡ x) × (b ≤ a → r ≡ y) ⌝ }
-{
-    if a < b { x } else { y }
-}
-
-// Both are under 2^31: a signed comparison is one instruction in a vector.
-pub fn low(a: u32, b: u32) -> u32
     requires { ⌜ (a < 2 ^ 31) × (b < 2 ^ 31) ⌝ }
     ensures { λ r. ⌜ (r ≤ a) × ((r ≤ b) × ((a < b → r ≡ a) × (b ≤ a → r ≡ b))) ⌝ }
 {
     if (a as i32) < (b as i32) { a } else { b }
 }
 
-fn pick(a: u32, b: u32, x: u32, y: u32) -> u32
+// x where a is below b, else y.
+pub fn choose(a: u32, b: u32, x: u32, y: u32) -> u32
     requires { ⌜ (a < 2 ^ 31) × (b < 2 ^ 31) ⌝ }
     ensures { λ r. ⌜ (a < b → r ≡ x) × (b ≤ a → r ≡ y) ⌝ }
 {
     if (a as i32) < (b as i32) { x } else { y }
+}
+
+// How far a is above b, or 0.
+pub fn excess(a: u32, b: u32) -> u32
+    requires { ⌜ (a < 2 ^ 31) × (b < 2 ^ 31) ⌝ }
+    ensures { λ r. ⌜ r ≡ a - b ⌝ }
+{
+    if (b as i32) < (a as i32) { a - b } else { 0 }
 }
 
 // A track at this label offers to every report of its row.
@@ -97,8 +90,8 @@ pub fn relax(
         let offered = offer(cells[j], discounts[j], label, price);
         let before = labels[j];
         let via_before = via[j];
-        labels[j] = low(offered, before);
-        via[j] = pick(offered, before, track, via_before);
+        labels[j] = lesser(offered, before);
+        via[j] = choose(offered, before, track, via_before);
         j += 1;
     }
 }
@@ -111,20 +104,21 @@ fn least(labels: &[u32], closings: &[u32], cap: u32) -> u32
     let mut best = cap;
     let mut j: usize = 0;
     while j < labels.len() {
-        best = low(labels[j] + closings[j], best);
+        best = lesser(labels[j] + closings[j], best);
         j += 1;
     }
     best
 }
 
-fn find(labels: &[u32], closings: &[u32], v: u32) -> usize
+// The first open report at this label, or the length.
+fn first_at(labels: &[u32], closings: &[u32], label: u32) -> usize
     requires { ⌜ Labels (now labels) (now closings) ⌝ }
-    ensures { λ r. ⌜ Found (now (labels .entry)) (now (closings .entry)) v r ⌝ }
+    ensures { λ r. ⌜ Found (now (labels .entry)) (now (closings .entry)) label r ⌝ }
 {
     let mut j: usize = 0;
     while j < labels.len() {
-        let x = labels[j] + closings[j];
-        if x == v {
+        let here = labels[j] + closings[j];
+        if here == label {
             return j;
         }
         j += 1;
@@ -137,22 +131,23 @@ fn far_nearest(labels: &[u32], closings: &[u32], cap: u32) -> usize
     requires { ⌜ Labels (now labels) (now closings) × (cap < 2 ^ 31) ⌝ }
     ensures { λ r. ⌜ Nearest (now (labels .entry)) (now (closings .entry)) cap r ⌝ }
 {
-    let v = least(labels, closings, cap);
-    if v < cap {
-        find(labels, closings, v)
+    let label = least(labels, closings, cap);
+    if label < cap {
+        first_at(labels, closings, label)
     } else {
         labels.len()
     }
 }
 
-// A label and its report in one number; labels from NEAR on count alike.
+// A label and its report in one key; labels from NEAR on count alike.
 fn near_of(label: u32, j: u32) -> u32
-    requires { ⌜ (label < 2 ^ 31) × (j < reportNumbers) ⌝ }
-    ensures { λ r. ⌜ (label < near → r ≡ label * reportNumbers + j) × ((near ≤ label → r ≡ near * reportNumbers + j) × (r < 2 ^ 31)) ⌝ }
+    requires { ⌜ (label < 2 ^ 31) × (j < keyPlaces) ⌝ }
+    ensures { λ r. ⌜ (label < near → r ≡ label * keyPlaces + j) × ((near ≤ label → r ≡ near * keyPlaces + j) × (r < 2 ^ 31)) ⌝ }
 {
-    low(label, NEAR) * REPORT_NUMBERS + j
+    lesser(label, NEAR) * KEY_PLACES + j
 }
 
+// The least of these keys.
 fn near_key(labels: &[u32], closings: &[u32]) -> u32
     requires { ⌜ Labels (now labels) (now closings) ⌝ }
     ensures { λ r. ⌜ Near (now (labels .entry)) (now (closings .entry)) r ⌝ }
@@ -160,7 +155,7 @@ fn near_key(labels: &[u32], closings: &[u32]) -> u32
     let mut best: u32 = LAST_KEY;
     let mut j: usize = 0;
     while j < labels.len() {
-        best = low(near_of(labels[j] + closings[j], j as u32), best);
+        best = lesser(near_of(labels[j] + closings[j], j as u32), best);
         j += 1;
     }
     best
@@ -171,31 +166,31 @@ fn nearest(labels: &[u32], closings: &[u32], cap: u32) -> usize
     requires { ⌜ Labels (now labels) (now closings) × (cap < 2 ^ 31) ⌝ }
     ensures { λ r. ⌜ Nearest (now (labels .entry)) (now (closings .entry)) cap r ⌝ }
 {
-    let k = near_key(labels, closings);
-    let v = k / REPORT_NUMBERS;
-    if v >= NEAR {
+    let best = near_key(labels, closings);
+    let label = best / KEY_PLACES;
+    if label >= NEAR {
         return far_nearest(labels, closings, cap);
     }
-    if v >= cap {
+    if label >= cap {
         return labels.len();
     }
-    idx(k % REPORT_NUMBERS)
+    index(best % KEY_PLACES)
 }
 
-// The same from `lo` on, where the reports before are closed.
-pub fn nearest_from(lo: usize, labels: &[u32], closings: &[u32], cap: u32) -> usize
-    requires { ⌜ FromLabels lo (now labels) (now closings) cap ⌝ }
+// The same from `front` on, where the reports before are closed.
+pub fn nearest_from(front: usize, labels: &[u32], closings: &[u32], cap: u32) -> usize
+    requires { ⌜ FromLabels front (now labels) (now closings) cap ⌝ }
     ensures { λ r. ⌜ Nearest (now (labels .entry)) (now (closings .entry)) cap r ⌝ }
 {
-    lo + nearest(&labels[lo..], &closings[lo..], cap)
+    front + nearest(&labels[front..], &closings[front..], cap)
 }
 
-// The first open report from `from` on, or the length.
-pub fn open_from(closings: &[u32], from: usize) -> usize
-    requires { ⌜ from ≤ length (now closings) ⌝ }
-    ensures { λ r. ⌜ (from ≤ r) × ((r ≤ length (now (closings .entry))) × ((k : ℕ) → k < r → from ≤ k → at (now (closings .entry)) k ≡ 0 → ⊥)) ⌝ }
+// The first open report from `front` on, or the length.
+pub fn open_from(closings: &[u32], front: usize) -> usize
+    requires { ⌜ front ≤ length (now closings) ⌝ }
+    ensures { λ r. ⌜ (front ≤ r) × ((r ≤ length (now (closings .entry))) × ((k : ℕ) → k < r → front ≤ k → at (now (closings .entry)) k ≡ 0 → ⊥)) ⌝ }
 {
-    let mut j = from;
+    let mut j = front;
     while j < closings.len() {
         if closings[j] == 0 {
             return j;
@@ -205,63 +200,58 @@ pub fn open_from(closings: &[u32], from: usize) -> usize
     j
 }
 
-// d - x, or 0.
-fn over(d: u32, x: u32) -> u32
-    ensures { λ r. ⌜ r ≡ d - x ⌝ }
+// One track's price rises; a rise of 0 may name no track.
+fn raise_one(prices: &mut [u32], track: u32, rise: u32)
+    requires { ⌜ (rise ≡ 0) ⊎ ((track < length (now prices)) × (at (now prices) track + rise < 2 ^ 32)) ⌝ }
+    ensures { λ _. ⌜ Lifted (now (prices .entry)) track rise (now (prices .exit)) ⌝ }
 {
-    if x < d { d - x } else { 0 }
-}
-
-fn raise_one(prices: &mut [u32], o: u32, x: u32)
-    requires { ⌜ (x ≡ 0) ⊎ ((o < length (now prices)) × (at (now prices) o + x < 2 ^ 32)) ⌝ }
-    ensures { λ _. ⌜ Lifted (now (prices .entry)) o x (now (prices .exit)) ⌝ }
-{
-    if x > 0 {
-        let y = idx(o);
-        prices[y] = prices[y] + x;
+    if rise > 0 {
+        let place = index(track);
+        prices[place] = prices[place] + rise;
     }
 }
 
-// A track whose report lies nearer than d pays the difference. `pairing` is for the contract only.
-pub fn raise_prices(pairing: &[u32], owner: &[u32], labels: &[u32], d: u32, prices: &mut [u32])
-    requires { ⌜ Paid (now pairing) (now owner) (now labels) (now prices) d ⌝ }
-    ensures { λ r. ⌜ PricesUp (now (pairing .entry)) (now (labels .entry)) d (now (prices .entry)) (now (prices .exit)) ⌝ }
+// A track whose report lies nearer than reach, where the search ended, pays the difference. `pairing` is for the contract only.
+pub fn raise_prices(pairing: &[u32], owner: &[u32], labels: &[u32], reach: u32, prices: &mut [u32])
+    requires { ⌜ Paid (now pairing) (now owner) (now labels) (now prices) reach ⌝ }
+    ensures { λ r. ⌜ PricesUp (now (pairing .entry)) (now (labels .entry)) reach (now (prices .entry)) (now (prices .exit)) ⌝ }
 {
     let mut j: usize = 0;
     while j < labels.len() {
-        raise_one(prices, owner[j], over(d, labels[j]));
+        raise_one(prices, owner[j], excess(reach, labels[j]));
         j += 1;
     }
 }
 
 // And its report's discount rises by as much.
-pub fn raise_discounts(labels: &[u32], d: u32, discounts: &mut [u32])
-    requires { ⌜ (length (now labels) ≡ length (now discounts)) × ((j : ℕ) → j < length (now discounts) → at (now discounts) j + d < 2 ^ 32) ⌝ }
-    ensures { λ r. ⌜ DiscountsUp (now (labels .entry)) d (now (discounts .entry)) (now (discounts .exit)) ⌝ }
+pub fn raise_discounts(labels: &[u32], reach: u32, discounts: &mut [u32])
+    requires { ⌜ Searched (now labels) reach × ((length (now labels) ≡ length (now discounts)) × ((j : ℕ) → j < length (now discounts) → at (now discounts) j + reach < 2 ^ 32)) ⌝ }
+    ensures { λ r. ⌜ DiscountsUp (now (labels .entry)) reach (now (discounts .entry)) (now (discounts .exit)) ⌝ }
 {
     let mut j: usize = 0;
     while j < discounts.len() {
-        discounts[j] = discounts[j] + over(d, labels[j]);
+        discounts[j] = discounts[j] + excess(reach, labels[j]);
         j += 1;
     }
 }
 
-// Score and report in one number.
+// A score and its report in one key.
 fn key_of(cell: u32, j: u32) -> u32
-    requires { ⌜ j < reportNumbers ⌝ }
+    requires { ⌜ j < keyPlaces ⌝ }
     ensures { λ r. ⌜ (r ≡ key cell j) × (r < 2 ^ 31) ⌝ }
 {
-    cell % KEY_SCORES * REPORT_NUMBERS + j
+    cell % KEY_SCORES * KEY_PLACES + j
 }
 
+// The least of these keys.
 fn row_key(cells: &[u32]) -> u32
-    requires { ⌜ length (now cells) ≤ reportNumbers ⌝ }
+    requires { ⌜ length (now cells) ≤ keyPlaces ⌝ }
     ensures { λ r. ⌜ Keyed (now (cells .entry)) r ⌝ }
 {
     let mut best: u32 = LAST_KEY;
     let mut j: usize = 0;
     while j < cells.len() {
-        best = low(key_of(cells[j], j as u32), best);
+        best = lesser(key_of(cells[j], j as u32), best);
         j += 1;
     }
     best
@@ -269,29 +259,29 @@ fn row_key(cells: &[u32]) -> u32
 
 // The least score of a row and its report, or LEFT_OUT.
 pub fn row_best(cells: &[u32]) -> Cheapest
-    requires { ⌜ (length (now cells) ≤ reportNumbers) × ((k : ℕ) → k < length (now cells) → IsCell (at (now cells) k)) ⌝ }
+    requires { ⌜ (length (now cells) ≤ keyPlaces) × ((k : ℕ) → k < length (now cells) → IsCell (at (now cells) k)) ⌝ }
     ensures { λ r. ⌜ RowLeast (now (cells .entry)) (r .score) (r .report) ⌝ }
 {
-    let k = row_key(cells);
-    let v = k / REPORT_NUMBERS;
-    if v >= SCORE_END {
+    let best = row_key(cells);
+    let score = best / KEY_PLACES;
+    if score >= SCORE_END {
         return Cheapest {
             score: LEFT_OUT,
             report: 0,
         };
     }
     Cheapest {
-        score: v,
-        report: k % REPORT_NUMBERS,
+        score: score,
+        report: best % KEY_PLACES,
     }
 }
 
-// Report j, if it has score v and no track has it.
-fn seat_key(cell: u32, owner: u32, v: u32, j: u32) -> u32
-    requires { ⌜ j < reportNumbers ⌝ }
-    ensures { λ r. ⌜ (r < 2 ^ 31) × (r < reportNumbers → (r ≡ j) × ((cell ≡ v) × (owner ≡ none))) ⌝ }
+// Report j, if it has this score and no track has it, or a number beyond all.
+fn free_key(cell: u32, owner: u32, score: u32, j: u32) -> u32
+    requires { ⌜ j < keyPlaces ⌝ }
+    ensures { λ r. ⌜ (r < 2 ^ 31) × (r < keyPlaces → (r ≡ j) × ((cell ≡ score) × (owner ≡ none))) ⌝ }
 {
-    if cell == v {
+    if cell == score {
         if owner == NONE {
             return j;
         }
@@ -299,28 +289,28 @@ fn seat_key(cell: u32, owner: u32, v: u32, j: u32) -> u32
     LAST_KEY
 }
 
-// The first report of score v that no track has, or a number beyond all: a loop with no way out goes by vectors.
-fn tight_free(cells: &[u32], owner: &[u32], v: u32) -> u32
-    requires { ⌜ (length (now owner) ≡ length (now cells)) × (length (now cells) ≤ reportNumbers) ⌝ }
-    ensures { λ r. ⌜ (r < length (now (cells .entry)) → (at (now (cells .entry)) r ≡ v) × (at (now (owner .entry)) r ≡ none)) ⌝ }
+// The first report of this score that no track has, or a number beyond all: a loop with no way out goes by vectors.
+fn first_free(cells: &[u32], owner: &[u32], score: u32) -> u32
+    requires { ⌜ (length (now owner) ≡ length (now cells)) × (length (now cells) ≤ keyPlaces) ⌝ }
+    ensures { λ r. ⌜ (r < length (now (cells .entry)) → (at (now (cells .entry)) r ≡ score) × (at (now (owner .entry)) r ≡ none)) ⌝ }
 {
     let mut best: u32 = LAST_KEY;
     let mut j: usize = 0;
     while j < cells.len() {
-        best = low(seat_key(cells[j], owner[j], v, j as u32), best);
+        best = lesser(free_key(cells[j], owner[j], score, j as u32), best);
         j += 1;
     }
     best
 }
 
-// Report h, of score v, if no track has it, or another such report, or a number beyond all.
-pub fn seat(cells: &[u32], owner: &[u32], v: u32, h: u32) -> usize
-    requires { ⌜ (length (now owner) ≡ length (now cells)) × ((length (now cells) ≤ reportNumbers) × ((h < length (now cells)) × (at (now cells) h ≡ v))) ⌝ }
-    ensures { λ r. ⌜ (r < length (now (cells .entry)) → (at (now (cells .entry)) r ≡ v) × (at (now (owner .entry)) r ≡ none)) ⌝ }
+// The report, of this score, if no track has it, or another such report, or a number beyond all.
+pub fn free_report(cells: &[u32], owner: &[u32], score: u32, report: u32) -> usize
+    requires { ⌜ (length (now owner) ≡ length (now cells)) × ((length (now cells) ≤ keyPlaces) × ((report < length (now cells)) × (at (now cells) report ≡ score))) ⌝ }
+    ensures { λ r. ⌜ (r < length (now (cells .entry)) → (at (now (cells .entry)) r ≡ score) × (at (now (owner .entry)) r ≡ none)) ⌝ }
 {
-    let hh = idx(h);
-    if owner[hh] == NONE {
-        return hh;
+    let place = index(report);
+    if owner[place] == NONE {
+        return place;
     }
-    idx(tight_free(cells, owner, v))
+    index(first_free(cells, owner, score))
 }

@@ -1,4 +1,4 @@
--- What the proofs of an insertion share: rows of the sheet, the search's tree, prices that rise, chains that flip.
+-- What the proofs of an insertion share: rows of the sheet, the search's tree, prices that rise, the pairing changed along the way back.
 pub mod Rows
 pub mod Advance
 pub mod Growth

@@ -1,4 +1,4 @@
--- A track's row of the sheet, as a part of the flat list, from report lo on.
+-- A track's row of the sheet, as a part of the flat list, from report front on.
 use Prim.Native.Nat.{ℕ, _+_, _-_, _*_, _≤_, _<_}
 use mathlib.Core.Path.{_≡_, refl, ap, sym, subst, _∙_}
 use mathlib.Core.List.{List}
@@ -12,18 +12,18 @@ use Rattle.laws.proofs.Parts.{part, part-length, part-at, put-before, put-in}
 use Rattle.laws.proofs.Stores.{le-or-lt}
 use Rattle.laws.specs.Lists.{at}
 use Rattle.passes.specs.Cells.{Step, Fair, Relaxed}
-use Rattle.paths.specs.State.{cell, Scannable, Scanned}
+use Rattle.paths.specs.State.{cell, Offerable, Offered}
 
--- row i, and row i from lo on
+-- row i, and row i from front on
 abbrev pub row : List ℕ → ℕ → ℕ → List ℕ
 row cells m i = part cells (i * m) (i * m + m)
 
-abbrev pub row-from : List ℕ → ℕ → ℕ → ℕ → List ℕ
-row-from cells m i lo = part cells (i * m + lo) (i * m + m)
+abbrev row-from : List ℕ → ℕ → ℕ → ℕ → List ℕ
+row-from cells m i front = part cells (i * m + front) (i * m + m)
 
--- a list from lo on
+-- a list from front on
 abbrev pub rest : List ℕ → ℕ → List ℕ
-rest xs lo = part xs lo (length xs)
+rest xs front = part xs front (length xs)
 
 module _ (cells : List ℕ) (m n i : ℕ) (h : i < n) (l : length cells ≡ n * m) where
   pub row-end : i * m + m ≤ length cells
@@ -35,89 +35,89 @@ module _ (cells : List ℕ) (m n i : ℕ) (h : i < n) (l : length cells ≡ n * 
   pub row-at : (k : ℕ) → k < m → at (row cells m i) k ≡ cell cells m i k
   row-at k g = part-at cells (i * m) (i * m + m) k (omega arith)
 
-  pub from-length : (lo : ℕ) → lo ≤ m → length (row-from cells m i lo) ≡ m - lo
-  from-length lo g = part-length cells (i * m + lo) (i * m + m) row-end ∙ omega arith
+  from-length : (front : ℕ) → front ≤ m → length (row-from cells m i front) ≡ m - front
+  from-length front g = part-length cells (i * m + front) (i * m + m) row-end ∙ omega arith
 
-  pub from-at : (lo k : ℕ) → k < m - lo → at (row-from cells m i lo) k ≡ cell cells m i (lo + k)
-  from-at lo k g = part-at cells (i * m + lo) (i * m + m) k (omega arith) ∙ ap (at cells) (omega arith)
+  from-at : (front k : ℕ) → k < m - front → at (row-from cells m i front) k ≡ cell cells m i (front + k)
+  from-at front k g = part-at cells (i * m + front) (i * m + m) k (omega arith) ∙ ap (at cells) (omega arith)
 
-module _ (cells : List ℕ) (m lo i d : ℕ) (prices discounts labels via : List ℕ) (F : Scannable cells m lo i d prices discounts labels via) where
+module _ (cells : List ℕ) (m front i from : ℕ) (prices discounts labels via : List ℕ) (F : Offerable cells m front i from prices discounts labels via) where
   abbrev n : ℕ
   n = length prices
 
-  -- report lo + k of a list from lo on
-  rest-length : (xs : List ℕ) → length xs ≡ m → length (rest xs lo) ≡ m - lo
-  rest-length xs e = part-length xs lo (length xs) (le-refl _) ∙ ap (λ (x : ℕ). x - lo) e
+  -- report front + k of a list from front on
+  rest-length : (xs : List ℕ) → length xs ≡ m → length (rest xs front) ≡ m - front
+  rest-length xs e = part-length xs front (length xs) (le-refl _) ∙ ap (λ (x : ℕ). x - front) e
 
-  rest-at : (xs : List ℕ) → length xs ≡ m → (k : ℕ) → k < m - lo → at (rest xs lo) k ≡ at xs (lo + k)
-  rest-at xs e k h = part-at xs lo (length xs) k (omega arith)
+  rest-at : (xs : List ℕ) → length xs ≡ m → (k : ℕ) → k < m - front → at (rest xs front) k ≡ at xs (front + k)
+  rest-at xs e k h = part-at xs front (length xs) k (omega arith)
 
-  fair-i : Fair (row-from cells m i lo) (rest discounts lo) (rest labels lo) (rest via lo) d (at prices i)
+  fair-i : Fair (row-from cells m i front) (rest discounts front) (rest labels front) (rest via front) from (at prices i)
   fair-i = record {
-    cells-long = from-length cells m n i (F .track-in) (F .cells-long) lo (F .first-in) ∙ sym ld;
-    discounts-long = rest-length discounts (F .discounts-long) ∙ sym ld;
-    via-long = rest-length via (F .via-long) ∙ sym ld;
+    cells-long = from-length cells m n i (F .track-in) (F .cells-long) front (F .front-in) ∙ sym rest-labels-long;
+    discounts-long = rest-length discounts (F .discounts-long) ∙ sym rest-labels-long;
+    via-long = rest-length via (F .via-long) ∙ sym rest-labels-long;
     cells-good = λ k h.
-        let g : k < m - lo = omega (arith, ld) in
-        rw (from-at cells m n i (F .track-in) (F .cells-long) lo k g) (F .cells-good (i * m + (lo + k)) (omega (arith, row-end cells m n i (F .track-in) (F .cells-long))));
-    offer-in = F .offer-in;
+        let g : k < m - front = omega (arith, rest-labels-long) in
+        rw (from-at cells m n i (F .track-in) (F .cells-long) front k g) (F .cells-good (i * m + (front + k)) (omega (arith, row-end cells m n i (F .track-in) (F .cells-long))));
+    from-in = F .from-in;
     price-in = F .numbers .price-in i (F .track-in);
-    discount-in = λ k h. let g : k < m - lo = omega (arith, ld) in omega (arith, rest-at discounts (F .discounts-long) k g, F .numbers .discount-in (lo + k) (omega arith));
-    labels-in = λ k h. let g : k < m - lo = omega (arith, ld) in omega (arith, rest-at labels (F .labels-long) k g, F .labels-in (lo + k) (omega arith));
+    discount-in = λ k h. let g : k < m - front = omega (arith, rest-labels-long) in omega (arith, rest-at discounts (F .discounts-long) k g, F .numbers .discount-in (front + k) (omega arith));
+    labels-in = λ k h. let g : k < m - front = omega (arith, rest-labels-long) in omega (arith, rest-at labels (F .labels-long) k g, F .labels-in (front + k) (omega arith));
     fair = λ k h a.
-        let g : k < m - lo = omega (arith, ld) in
-        let e = from-at cells m n i (F .track-in) (F .cells-long) lo k g in
-        omega (arith, rest-at discounts (F .discounts-long) k g, F .numbers .fair i (lo + k) (F .track-in) (omega arith) (omega arith));
+        let g : k < m - front = omega (arith, rest-labels-long) in
+        let e = from-at cells m n i (F .track-in) (F .cells-long) front k g in
+        omega (arith, rest-at discounts (F .discounts-long) k g, F .numbers .fair i (front + k) (F .track-in) (omega arith) (omega arith));
   }
     where
-      ld : length (rest labels lo) ≡ m - lo
-      ld = rest-length labels (F .labels-long)
+      rest-labels-long : length (rest labels front) ≡ m - front
+      rest-labels-long = rest-length labels (F .labels-long)
 
-  pub fair : (x : ℕ) → x ≡ i → Fair (row-from cells m x lo) (rest discounts lo) (rest labels lo) (rest via lo) d (at prices x)
-  fair x q = rw q fair-i
+  pub fair : (place : ℕ) → place ≡ i → Fair (row-from cells m place front) (rest discounts front) (rest labels front) (rest via front) from (at prices place)
+  fair place q = rw q fair-i
 
-  -- the whole list after the offers, from what stands from lo on
+  -- the whole list after the offers, from what stands from front on
   abbrev whole : List ℕ → List ℕ → List ℕ
-  whole xs ys = putMid lo (length xs - lo) xs ys
+  whole xs ys = putMid front (length xs - front) xs ys
 
-  scanned-i : (D Q : List ℕ) → Relaxed (row-from cells m i lo) (rest discounts lo) d (at prices i) i (rest labels lo) (rest via lo) D Q
-      → Scanned cells m discounts d (at prices i) i labels via (whole labels D) (whole via Q)
-  scanned-i D Q R = record {
-    labels-long = same-len-mid lo (length labels - lo) labels D (R .labels-long) ∙ F .labels-long;
-    via-long = same-len-mid lo (length via - lo) via Q (R .via-long ∙ (rest-length labels (F .labels-long) ∙ sym (rest-length via (F .via-long)))) ∙ F .via-long;
-    steps = λ e h. ⊎-elim (λ l. let q : lo + (e - lo) ≡ e = omega arith in subst StepAt q (later (e - lo) (omega arith))) (λ l. early e h l) (le-or-lt lo e);
+  offered-i : (labels-on via-on : List ℕ) → Relaxed (row-from cells m i front) (rest discounts front) from (at prices i) i (rest labels front) (rest via front) labels-on via-on
+      → Offered cells m discounts from (at prices i) i labels via (whole labels labels-on) (whole via via-on)
+  offered-i labels-on via-on R = record {
+    labels-long = same-len-mid front (length labels - front) labels labels-on (R .labels-long) ∙ F .labels-long;
+    via-long = same-len-mid front (length via - front) via via-on (R .via-long ∙ (rest-length labels (F .labels-long) ∙ sym (rest-length via (F .via-long)))) ∙ F .via-long;
+    steps = λ e h. ⊎-elim (λ l. let q : front + (e - front) ≡ e = omega arith in subst StepAt q (later (e - front) (omega arith))) (λ l. early e h l) (le-or-lt front e);
   }
     where
-      lD : length D ≡ m - lo
-      lD = R .labels-long ∙ rest-length labels (F .labels-long)
+      labels-on-long : length labels-on ≡ m - front
+      labels-on-long = R .labels-long ∙ rest-length labels (F .labels-long)
 
-      lQ : length Q ≡ m - lo
-      lQ = R .via-long ∙ rest-length labels (F .labels-long)
+      via-on-long : length via-on ≡ m - front
+      via-on-long = R .via-long ∙ rest-length labels (F .labels-long)
 
       StepAt : ℕ → Type 0
-      StepAt e = Step (cell cells m i e) (at discounts e) d (at prices i) i (at labels e) (at via e) (at (whole labels D) e) (at (whole via Q) e)
+      StepAt e = Step (cell cells m i e) (at discounts e) from (at prices i) i (at labels e) (at via e) (at (whole labels labels-on) e) (at (whole via via-on) e)
 
-      later : (k : ℕ) → k < m - lo → StepAt (lo + k)
+      later : (k : ℕ) → k < m - front → StepAt (front + k)
       later k g = rw (
-        put-in labels D lo (length labels - lo) (omega (arith, F .first-in, F .labels-long)) k (omega (arith, lD)),
-        put-in via Q lo (length via - lo) (omega (arith, F .first-in, F .via-long)) k (omega (arith, lQ)),
-        ← from-at cells m n i (F .track-in) (F .cells-long) lo k g,
+        put-in labels labels-on front (length labels - front) (omega (arith, F .front-in, F .labels-long)) k (omega (arith, labels-on-long)),
+        put-in via via-on front (length via - front) (omega (arith, F .front-in, F .via-long)) k (omega (arith, via-on-long)),
+        ← from-at cells m n i (F .track-in) (F .cells-long) front k g,
         ← rest-at discounts (F .discounts-long) k g,
         ← rest-at labels (F .labels-long) k g,
         ← rest-at via (F .via-long) k g,
       ) (R .steps k (omega (arith, rest-length labels (F .labels-long))))
 
-      -- a closed report keeps its label, which is not above d
-      early : (e : ℕ) → e < m → e < lo → StepAt e
+      -- a closed report keeps its label, which is not above from
+      early : (e : ℕ) → e < m → e < front → StepAt e
       early e h l =
-          let p = put-before labels D lo (length labels - lo) (omega (arith, F .first-in, F .labels-long)) e l in
-          let q = put-before via Q lo (length via - lo) (omega (arith, F .first-in, F .via-long)) e l in
+          let p = put-before labels labels-on front (length labels - front) (omega (arith, F .front-in, F .labels-long)) e l in
+          let q = put-before via via-on front (length via - front) (omega (arith, F .front-in, F .via-long)) e l in
           rw (p, q) (record {
             less = le-refl _;
-            reach = λ a. omega (arith, F .before e l, F .numbers .fair i e (F .track-in) h a);
+            at-most = λ a. omega (arith, F .before e l, F .numbers .fair i e (F .track-in) h a);
             why = inl (refl, refl);
           })
 
-  pub scanned : (x : ℕ) → x ≡ i → (D Q : List ℕ) → Relaxed (row-from cells m x lo) (rest discounts lo) d (at prices x) i (rest labels lo) (rest via lo) D Q
-      → Scanned cells m discounts d (at prices i) i labels via (whole labels D) (whole via Q)
-  scanned x q D Q R = scanned-i D Q (rw q at R)
+  pub offered : (place : ℕ) → place ≡ i → (labels-on via-on : List ℕ) → Relaxed (row-from cells m place front) (rest discounts front) from (at prices place) i (rest labels front) (rest via front) labels-on via-on
+      → Offered cells m discounts from (at prices i) i labels via (whole labels labels-on) (whole via via-on)
+  offered place q labels-on via-on R = offered-i labels-on via-on (rw q at R)

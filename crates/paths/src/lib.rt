@@ -1,10 +1,10 @@
-// One track more: a search from it, prices that rise once, and a pairing that changes along one chain.
+// One track more: a search from it, prices that rise once, and a pairing that changes along the way back.
 use matching::LEFT_OUT;
 use matching::NONE;
+use matching::index;
 use passes::FAR;
 use passes::choose;
 use passes::fill;
-use passes::idx;
 use passes::lesser;
 use passes::nearest_from;
 use passes::open_from;
@@ -16,7 +16,7 @@ ghost use mathlib.Core.Path.{_≡_};
 ghost use mathlib.Core.Bool.{true};
 ghost use lib.ListN.{length};
 ghost use Rattle.laws.specs.Lists.{at};
-ghost use Rattle.paths.specs.State.{Scanned, Scannable, Searchable, Standing, isTaken, Endable, EndsAt, Ended, Flips, Flipped, Finishable, Settled, Inserted, Reached};
+ghost use Rattle.paths.specs.State.{Offered, Offerable, Searchable, Standing, isTaken, Endable, EndsAt, Ended, Flips, Flipped, Finishable, Settled, Inserted, Reached};
 
 // Where a search stands: what leaving a track out would cost, and which; how many reports are closed, before which report all are,
 // and the nearest open one, the number of reports if none is nearer than leaving a track out.
@@ -42,34 +42,34 @@ pub struct Reach {
     pub closed: u32,
 }
 
-// Track i, at label d, offers to every report from lo on; those before are closed.
-fn scan(
+// The track, at this label, offers to every report from `front` on; those before are closed.
+fn offer_from(
     sheet: &[u32],
     reports: usize,
-    lo: usize,
-    i: u32,
-    d: u32,
+    front: usize,
+    track: u32,
+    label: u32,
     prices: &[u32],
     discounts: &[u32],
     labels: &mut [u32],
     via: &mut [u32],
 )
-    requires { ⌜ Scannable (now sheet) reports lo i d (now prices) (now discounts) (now labels) (now via) ⌝ }
-    ensures { λ r. ⌜ Scanned (now (sheet .entry)) reports (now (discounts .entry)) d (at (now (prices .entry)) i) i (now (labels .entry)) (now (via .entry)) (now (labels .exit)) (now (via .exit)) ⌝ }
+    requires { ⌜ Offerable (now sheet) reports front track label (now prices) (now discounts) (now labels) (now via) ⌝ }
+    ensures { λ r. ⌜ Offered (now (sheet .entry)) reports (now (discounts .entry)) label (at (now (prices .entry)) track) track (now (labels .entry)) (now (via .entry)) (now (labels .exit)) (now (via .exit)) ⌝ }
 {
-    let ii = idx(i);
-    let a = ii * reports;
-    let e = a + reports;
-    let s = a + lo;
-    let price = prices[ii];
+    let place = index(track);
+    let row = place * reports;
+    let row_end = row + reports;
+    let row_front = row + front;
+    let price = prices[place];
     relax(
-        &sheet[s..e],
-        &discounts[lo..],
-        d,
+        &sheet[row_front..row_end],
+        &discounts[front..],
+        label,
         price,
-        i,
-        &mut labels[lo..],
-        &mut via[lo..],
+        track,
+        &mut labels[front..],
+        &mut via[front..],
     );
 }
 
@@ -91,8 +91,8 @@ fn set_out(
 {
     fill(labels, LEFT_OUT);
     fill(closings, 0);
-    scan(sheet, reports, 0, track, 0, prices, discounts, labels, via);
-    let leaving = LEFT_OUT - prices[idx(track)];
+    offer_from(sheet, reports, 0, track, 0, prices, discounts, labels, via);
+    let leaving = LEFT_OUT - prices[index(track)];
     let next = nearest_from(0, labels, closings, leaving);
     Progress {
         leaving: leaving,
@@ -122,14 +122,24 @@ fn pass_through(
     ensures { λ r. ⌜ Standing (now (sheet .entry)) reports (length (now (prices .entry))) (now (pairing .entry)) (now (owner .entry)) (now (prices .entry)) (now (discounts .entry)) track (r .leaving) (r .leaver) (r .closed) (r .front) (r .next) (now (labels .exit)) (now (via .exit)) (now (closings .exit)) × (r .closed ≡ s .closed + 1) ⌝ }
 {
     let j = s.next;
-    let d = labels[j];
+    let label = labels[j];
     closings[j] = FAR + s.closed;
-    let o = owner[j];
-    let x = d + (LEFT_OUT - prices[idx(o)]);
-    let leaver = choose(x, s.leaving, o, s.leaver);
-    let leaving = lesser(x, s.leaving);
+    let passed = owner[j];
+    let cost = label + (LEFT_OUT - prices[index(passed)]);
+    let leaver = choose(cost, s.leaving, passed, s.leaver);
+    let leaving = lesser(cost, s.leaving);
     let front = open_from(closings, s.front);
-    scan(sheet, reports, front, o, d, prices, discounts, labels, via);
+    offer_from(
+        sheet,
+        reports,
+        front,
+        passed,
+        label,
+        prices,
+        discounts,
+        labels,
+        via,
+    );
     let next = nearest_from(front, labels, closings, leaving);
     Progress {
         leaving: leaving,
@@ -219,8 +229,8 @@ fn search(
     end_of(reports, s, labels, closings)
 }
 
-// Report `start` is free or given up: it goes to the track via which it was reached, whose report goes on likewise, up to the track
-// that is inserted.
+// Report `start` is vacant, as it is free or given up: it goes to the track via which it was reached, whose report is vacant next, up
+// to the track that is inserted.
 fn flip(
     sheet: &[u32],
     reports: usize,
@@ -236,19 +246,19 @@ fn flip(
     requires { ⌜ Flips (now sheet) reports (length (now prices)) (now prices) (now discounts) track (now via) (now closings) (now pairing) (now owner) (now pairing) (now owner) start ⌝ }
     ensures { λ _. ⌜ Flipped (now (sheet .entry)) reports (length (now (prices .entry))) (now (prices .entry)) (now (discounts .entry)) track (now (pairing .entry)) (now (owner .entry)) (now (pairing .exit)) (now (owner .exit)) ⌝ }
 {
-    let mut h = start;
-    while h != NONE {
-        let hh = idx(h);
-        let i = via[hh];
-        let ii = idx(i);
-        let next = pairing[ii];
-        pairing[ii] = h;
-        owner[hh] = i;
-        h = next;
+    let mut vacant = start;
+    while vacant != NONE {
+        let place = index(vacant);
+        let taker = via[place];
+        let taker_place = index(taker);
+        let next = pairing[taker_place];
+        pairing[taker_place] = vacant;
+        owner[place] = taker;
+        vacant = next;
     }
 }
 
-// The pairing changes along the chain that ends in a free report, or in the report of the track that is left out.
+// The pairing changes along the way back from a free report, or from the report of the track that is left out.
 fn finish(
     sheet: &[u32],
     reports: usize,
@@ -283,9 +293,9 @@ fn finish(
     if leaver == track {
         return;
     }
-    let t = idx(leaver);
-    let s = pairing[t];
-    pairing[t] = NONE;
+    let place = index(leaver);
+    let vacant = pairing[place];
+    pairing[place] = NONE;
     flip(
         sheet,
         reports,
@@ -294,7 +304,7 @@ fn finish(
         track,
         via,
         closings,
-        s,
+        vacant,
         pairing,
         owner,
     );
@@ -316,7 +326,7 @@ pub fn insert(
     requires { ⌜ Searchable (now sheet) reports track (now pairing) (now owner) (now prices) (now discounts) (now labels) (now via) (now closings) ⌝ }
     ensures { λ r. ⌜ Inserted (now (sheet .entry)) reports (length (now (prices .entry))) track (now (pairing .entry)) (now (prices .entry)) (now (pairing .exit)) (now (owner .exit)) (now (prices .exit)) (now (discounts .exit)) × Reached (now (sheet .entry)) reports (length (now (prices .entry))) (now (pairing .entry)) (now (owner .entry)) (now (prices .entry)) (now (labels .exit)) (r .label) (now (pairing .exit)) (now (owner .exit)) (now (prices .exit)) ⌝ }
 {
-    let f = search(
+    let ending = search(
         sheet,
         reports,
         track,
@@ -328,11 +338,11 @@ pub fn insert(
         via,
         closings,
     );
-    let label = f.label;
-    raise_discounts(labels, label, discounts);
-    raise_prices(pairing, owner, labels, label, prices);
-    let x = idx(track);
-    prices[x] = prices[x] + label;
+    let reach = ending.label;
+    raise_discounts(labels, reach, discounts);
+    raise_prices(pairing, owner, labels, reach, prices);
+    let place = index(track);
+    prices[place] = prices[place] + reach;
     finish(
         sheet,
         reports,
@@ -341,13 +351,13 @@ pub fn insert(
         track,
         via,
         closings,
-        f.report,
-        f.leaver,
+        ending.report,
+        ending.leaver,
         pairing,
         owner,
     );
     Reach {
-        label: label,
-        closed: f.closed,
+        label: reach,
+        closed: ending.closed,
     }
 }

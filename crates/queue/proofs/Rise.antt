@@ -1,6 +1,6 @@
 -- Slacks: taken in track by track, spent when all pairs rise, and tightened after a search.
 use Prim.Native.Nat.{ℕ, _+_, _*_, _≤_, _<_}
-use mathlib.Core.Path.{_≡_, ap, sym, subst, _∙_}
+use mathlib.Core.Path.{_≡_, refl, ap, sym, subst, _∙_}
 use mathlib.Core.List.{List}
 use mathlib.Core.Logic.{inl, inr, ⊎-elim}
 use native.Mathlib.Omega.{arith}
@@ -9,134 +9,129 @@ use Rattle.laws.proofs.Stores.{same-or}
 use Rattle.laws.specs.Lists.{at}
 use Rattle.matching.specs.Pairing.{none, leftOut}
 use Rattle.passes.specs.Cells.{far}
-use Rattle.lifting.specs.Slack.{Row, Kept, Raised, Spent, Slacks, Tightened}
+use Rattle.lifting.specs.Slack.{Row, Bounded, Raised, Spent, Slacks, Tightened}
 use Rattle.paths.specs.State.{cell, Own, Good, Rooms, Inserted, Reached, Searchable}
+use Rattle.paths.proofs.Swap.{reshaped, free-zero}
 use Rattle.paths.proofs.Rows.{row, row-length, row-at, row-end}
 use Rattle.queue.specs.State.{Slack, Lifting}
 
--- a report that no track has is without discount
-pub free-zero : (cells : List ℕ) (m n : ℕ) (pairing owner prices discounts : List ℕ) → Good cells m n pairing owner prices discounts → (j : ℕ) → j < m → at owner j ≡ none → at discounts j ≡ 0
-free-zero cells m n pairing owner prices discounts G j g z =
-    ⊎-elim (λ a. a .1) (λ o. absurd (omega (arith, o .there, G .shape .tracks-few))) (G .matched .owned j g (λ e. omega (arith, G .shape .reports-few)))
-
 module _ (cells : List ℕ) (m track : ℕ) (pairing owner prices discounts slack : List ℕ) (G : Good cells m (length prices) pairing owner prices discounts) (h : track < length prices)
     (K : Slack cells m track pairing owner prices slack) where
-  rl : length (row cells m track) ≡ m
-  rl = row-length cells m (length prices) track h (G .shape .cells-long)
+  row-long : length (row cells m track) ≡ m
+  row-long = row-length cells m (length prices) track h (G .shape .cells-long)
 
-  ra : (k : ℕ) → k < m → at (row cells m track) k ≡ cell cells m track k
-  ra k g = row-at cells m (length prices) track h (G .shape .cells-long) k g
+  row-is : (k : ℕ) → k < m → at (row cells m track) k ≡ cell cells m track k
+  row-is k g = row-at cells m (length prices) track h (G .shape .cells-long) k g
 
   pub row-slack : Row (row cells m track) (at prices track) slack
   row-slack = record {
-    same = rl ∙ sym (K .slack-long);
+    same = row-long ∙ sym (K .slack-long);
     cells-good = λ k g. let q : k < m = omega (arith, K .slack-long) in
-        rw (ra k q) (G .shape .cells-good (track * m + k) (omega (arith, row-end cells m (length prices) track h (G .shape .cells-long))));
+        rw (row-is k q) (G .shape .cells-good (track * m + k) (omega (arith, row-end cells m (length prices) track h (G .shape .cells-long))));
     top = G .numbers .price-in track h;
     small = K .small;
   }
 
   -- a track in no pair bounds nothing
-  pub kept-none : at pairing track ≡ none → Slack cells m (track + 1) pairing owner prices slack
-  kept-none z = record {
+  pub bounded-none : at pairing track ≡ none → Slack cells m (track + 1) pairing owner prices slack
+  bounded-none z = record {
     slack-long = K .slack-long;
     small = K .small;
     room = λ i j l g p f a. ⊎-elim (λ q. absurd (omega (arith, ap (at pairing) q, G .shape .reports-few))) (λ d. K .room i j (omega arith) g p f a) (same-or i track);
   }
 
-  pub kept-row : (slack' : List ℕ) → Kept (row cells m track) (at prices track) slack slack' → Slack cells m (track + 1) pairing owner prices slack'
-  kept-row slack' R = record {
+  pub bounded-row : (slack′ : List ℕ) → Bounded (row cells m track) (at prices track) slack slack′ → Slack cells m (track + 1) pairing owner prices slack′
+  bounded-row slack′ R = record {
     slack-long = R .slack-long ∙ K .slack-long;
     small = λ k g. omega (arith, R .less k (omega (arith, R .slack-long)), K .small k (omega (arith, R .slack-long)));
     room = λ i j l g p f a. let s : j < length slack = omega (arith, K .slack-long) in
         ⊎-elim
         (λ q. rw q (omega (
           arith,
-          R .room j s (omega (arith, ra j g, ap (λ (k : ℕ). cell cells m k j) q)),
-          ra j g,
+          R .room j s (omega (arith, row-is j g, ap (λ (k : ℕ). cell cells m k j) q)),
+          row-is j g,
           ap (λ (k : ℕ). cell cells m k j) q,
           G .numbers .fair track j h g (omega (arith, ap (λ (k : ℕ). cell cells m k j) q)),
-          free-zero cells m (length prices) pairing owner prices discounts G j g f,
+          free-zero G j g f,
         )))
         (λ d. omega (arith, K .room i j (omega arith) g p f a, R .less j s)) (same-or i track);
   }
 
-module _ (cells : List ℕ) (m n : ℕ) (pairing owner prices discounts slack : List ℕ) (L : Lifting cells m n pairing owner prices discounts slack) (x : ℕ)
-    (xs : (j : ℕ) → j < m → at owner j ≡ none → x ≤ at slack j) (xu : (i : ℕ) → i < n → at prices i + x ≤ leftOut) (discounts' prices' slack' : List ℕ)
-    (W : Raised owner x discounts discounts') (U : Raised pairing x prices prices') (K : Spent x slack slack') where
+module _ (cells : List ℕ) (m n : ℕ) (pairing owner prices discounts slack : List ℕ) (L : Lifting cells m n pairing owner prices discounts slack) (rise : ℕ)
+    (within-slack : (j : ℕ) → j < m → at owner j ≡ none → rise ≤ at slack j) (within-price : (i : ℕ) → i < n → at prices i + rise ≤ leftOut) (discounts′ prices′ slack′ : List ℕ)
+    (W : Raised owner rise discounts discounts′) (U : Raised pairing rise prices prices′) (K : Spent rise slack slack′) where
   abbrev G : Good cells m n pairing owner prices discounts
   G = L .good
 
-  u-pair : (i : ℕ) → i < n → at pairing i < m → at prices' i ≡ at prices i + x
-  u-pair i h p = U .paired i (omega (arith, G .shape .prices-long)) (λ e. omega (arith, G .shape .reports-few))
+  price-paired : (i : ℕ) → i < n → at pairing i < m → at prices′ i ≡ at prices i + rise
+  price-paired i h p = U .paired i (omega (arith, G .shape .prices-long)) (λ e. omega (arith, G .shape .reports-few))
 
-  u-none : (i : ℕ) → i < n → at pairing i ≡ none → at prices' i ≡ at prices i
-  u-none i h z = U .alone i (omega (arith, G .shape .prices-long)) z
+  price-unpaired : (i : ℕ) → i < n → at pairing i ≡ none → at prices′ i ≡ at prices i
+  price-unpaired i h z = U .alone i (omega (arith, G .shape .prices-long)) z
 
-  w-none : (j : ℕ) → j < m → at owner j ≡ none → at discounts' j ≡ at discounts j
-  w-none j g z = W .alone j (omega (arith, G .shape .discounts-long)) z
+  discount-free : (j : ℕ) → j < m → at owner j ≡ none → at discounts′ j ≡ at discounts j
+  discount-free j g z = W .alone j (omega (arith, G .shape .discounts-long)) z
 
-  w-own : (j : ℕ) → j < m → (at owner j ≡ none → ⊥) → at discounts' j ≡ at discounts j + x
-  w-own j g d = W .paired j (omega (arith, G .shape .discounts-long)) d
+  discount-owned : (j : ℕ) → j < m → (at owner j ≡ none → ⊥) → at discounts′ j ≡ at discounts j + rise
+  discount-owned j g d = W .paired j (omega (arith, G .shape .discounts-long)) d
 
   owned : (j : ℕ) → Own cells m n pairing prices discounts j (at owner j) → at owner j ≡ none → ⊥
   owned j o e = omega (arith, o .there, G .shape .tracks-few)
 
-  feas' : (i j : ℕ) → i < n → j < m → cell cells m i j < far → at prices' i ≤ cell cells m i j + at discounts' j
-  feas' i j h g a =
+  fair-now : (i j : ℕ) → i < n → j < m → cell cells m i j < far → at prices′ i ≤ cell cells m i j + at discounts′ j
+  fair-now i j h g a =
       let f = G .numbers .fair i j h g a in
       ⊎-elim
-      (λ z. ⊎-elim (λ y. omega (arith, u-none i h z, w-none j g y)) (λ d. omega (arith, u-none i h z, w-own j g d)) (same-or (at owner j) none))
-      (λ p. ⊎-elim (λ y. omega (arith, u-pair i h (p .0), xs j g y, L .slacks .room i j h g (p .0) y a)) (λ d. omega (arith, u-pair i h (p .0), w-own j g d)) (same-or (at owner j) none))
+      (λ z. ⊎-elim (λ y. omega (arith, price-unpaired i h z, discount-free j g y)) (λ d. omega (arith, price-unpaired i h z, discount-owned j g d)) (same-or (at owner j) none))
+      (λ p. ⊎-elim (λ y. omega (arith, price-paired i h (p .0), within-slack j g y, L .slacks .room i j h g (p .0) y a)) (λ d. omega (arith, price-paired i h (p .0), discount-owned j g d)) (same-or (at owner j) none))
       (G .matched .paired i h)
 
-  own' : (j : ℕ) → j < m → Own cells m n pairing prices discounts j (at owner j) → Own cells m n pairing prices' discounts' j (at owner j)
-  own' j g o = record {
+  own-now : (j : ℕ) → j < m → Own cells m n pairing prices discounts j (at owner j) → Own cells m n pairing prices′ discounts′ j (at owner j)
+  own-now j g o = record {
     there = o .there;
     back = o .back;
     admissible = o .admissible;
-    tight = omega (arith, u-pair (at owner j) (o .there) (omega (arith, o .back)), w-own j g (owned j o), o .tight);
+    tight = omega (arith, price-paired (at owner j) (o .there) (omega (arith, o .back)), discount-owned j g (owned j o), o .tight);
   }
 
-  good' : Good cells m n pairing owner prices' discounts'
-  good' = record {
-    shape = record { cells-long = G .shape .cells-long; pairing-long = G .shape .pairing-long; owner-long = G .shape .owner-long; prices-long = U .same-long ∙ G .shape .prices-long; discounts-long = W .same-long ∙ G .shape .discounts-long; tracks-few = G .shape .tracks-few; reports-few = G .shape .reports-few; cells-good = G .shape .cells-good };
+  good-now : Good cells m n pairing owner prices′ discounts′
+  good-now = record {
+    shape = reshaped (G .shape) refl refl (U .same-long) (W .same-long);
     numbers = record {
-      fair = feas';
-      price-in = λ i h. ⊎-elim (λ z. omega (arith, u-none i h z, G .numbers .price-in i h)) (λ p. omega (arith, u-pair i h (p .0), xu i h)) (G .matched .paired i h);
-      discount-in = λ j g. ⊎-elim (λ z. omega (arith, w-none j g (z .0), G .numbers .discount-in j g))
-          (λ o. omega (arith, w-own j g (owned j o), o .tight, xu (at owner j) (o .there))) (G .matched .owned j g (λ e. omega (arith, G .shape .reports-few)));
+      fair = fair-now;
+      price-in = λ i h. ⊎-elim (λ z. omega (arith, price-unpaired i h z, G .numbers .price-in i h)) (λ p. omega (arith, price-paired i h (p .0), within-price i h)) (G .matched .paired i h);
+      discount-in = λ j g. ⊎-elim (λ z. omega (arith, discount-free j g (z .0), G .numbers .discount-in j g))
+          (λ o. omega (arith, discount-owned j g (owned j o), o .tight, within-price (at owner j) (o .there))) (G .matched .owned j g (λ e. omega (arith, G .shape .reports-few)));
     };
     matched = record {
-      owned = λ j g d. ⊎-elim (λ z. inl (z .0, w-none j g (z .0) ∙ z .1)) (λ o. inr (own' j g o)) (G .matched .owned j g d);
+      owned = λ j g d. ⊎-elim (λ z. inl (z .0, discount-free j g (z .0) ∙ z .1)) (λ o. inr (own-now j g o)) (G .matched .owned j g d);
       paired = G .matched .paired;
     };
   }
 
-  pub lifted : Lifting cells m n pairing owner prices' discounts' slack'
+  pub lifted : Lifting cells m n pairing owner prices′ discounts′ slack′
   lifted = record {
-    good = good';
+    good = good-now;
     slacks = record {
       slack-long = K .slack-long ∙ L .slacks .slack-long;
       small = λ k h. omega (arith, K .left k (omega (arith, K .slack-long)), L .slacks .small k (omega (arith, K .slack-long)));
-      room = λ i j h g p f a. omega (arith, u-pair i h p, K .left j (omega (arith, L .slacks .slack-long)), xs j g f, L .slacks .room i j h g p f a);
+      room = λ i j h g p f a. omega (arith, price-paired i h p, K .left j (omega (arith, L .slacks .slack-long)), within-slack j g f, L .slacks .room i j h g p f a);
     };
   }
 
 -- a turn's search tightens the slacks
 module _ (cells : List ℕ) (m n track : ℕ) (pairing owner prices discounts slack : List ℕ) (L : Lifting cells m n pairing owner prices discounts slack)
-    (pairing' owner' prices' discounts' labels : List ℕ) (D : ℕ) (I : Inserted cells m n track pairing prices pairing' owner' prices' discounts')
-    (R : Reached cells m n pairing owner prices labels D pairing' owner' prices') where
-  pub search-slacks : Slacks labels D slack
+    (pairing′ owner′ prices′ discounts′ labels : List ℕ) (reach : ℕ) (I : Inserted cells m n track pairing prices pairing′ owner′ prices′ discounts′)
+    (R : Reached cells m n pairing owner prices labels reach pairing′ owner′ prices′) where
+  pub search-slacks : Slacks labels reach slack
   search-slacks = record {
     same = R .labels-long ∙ sym (L .slacks .slack-long);
-    end = R .end;
-    labels-small = λ k h. R .labels-in k (omega (arith, R .labels-long));
+    searched = R .searched;
     small = L .slacks .small;
   }
 
-  pub turned : (slack' : List ℕ) → Tightened labels D slack slack' → Lifting cells m n pairing' owner' prices' discounts' slack'
-  turned slack' T = record {
+  pub turned : (slack′ : List ℕ) → Tightened labels reach slack slack′ → Lifting cells m n pairing′ owner′ prices′ discounts′ slack′
+  turned slack′ T = record {
     good = I .good;
     slacks = record {
       slack-long = T .slack-long ∙ L .slacks .slack-long;
@@ -152,7 +147,7 @@ pub to-search : (cells : List ℕ) (m track : ℕ) (pairing owner prices discoun
 to-search cells m track pairing owner prices discounts labels via closings G L h z =
     record { good = G; track-in = h; unpaired = z; rooms = L }
 
--- with another name for the number of tracks
+-- Lifting with another name for the number of tracks
 pub lifting-at : (cells : List ℕ) (m n k : ℕ) (pairing owner prices discounts slack : List ℕ) → k ≡ n → Lifting cells m k pairing owner prices discounts slack → Lifting cells m n pairing owner prices discounts slack
 lifting-at cells m n k pairing owner prices discounts slack e L = subst (λ (x : ℕ). Lifting cells m x pairing owner prices discounts slack) e L
 

@@ -15,6 +15,7 @@ pub record Slack (cells : List ℕ) (m t : ℕ) (pairing owner prices slack : Li
   pub small : Small slack
   pub room : (i j : ℕ) → i < t → j < m → at pairing i < m → at owner j ≡ none → cell cells m i j < far → at prices i + at slack j ≤ cell cells m i j
 
+-- fair prices, a pairing, and slacks that hold for all its pairs
 pub record Lifting (cells : List ℕ) (m n : ℕ) (pairing owner prices discounts slack : List ℕ) : Type 0 where
   pub good : Good cells m n pairing owner prices discounts
   pub slacks : Slack cells m n pairing owner prices slack

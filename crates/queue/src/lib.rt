@@ -1,7 +1,7 @@
 // The tracks without a report take turns, the most exacting first. Once a search has gone a long way, the prices of all pairs rise
 // together before each turn as far as the free reports allow: then the next search meets a free report before it goes through them.
+use lifting::bound_slack;
 use lifting::highest;
-use lifting::keep;
 use lifting::least_slack;
 use lifting::next_turn;
 use lifting::raise_paired;
@@ -25,7 +25,7 @@ ghost use Rattle.queue.specs.State.{Slack, Lifting};
 const LONG_SEARCH: u32 = 20;
 
 // A track in a pair bounds the slack of each report of its row.
-fn keep_row(
+fn bound_by_pair(
     sheet: &[u32],
     reports: usize,
     track: usize,
@@ -42,12 +42,13 @@ fn keep_row(
         return;
     }
     let price = prices[track];
-    let a = track * reports;
-    let e = a + reports;
-    keep(&sheet[a..e], price, slack);
+    let row = track * reports;
+    let row_end = row + reports;
+    bound_slack(&sheet[row..row_end], price, slack);
 }
 
-fn keep_all(
+// Every track in a pair does.
+fn bound_by_pairs(
     sheet: &[u32],
     reports: usize,
     pairing: &[u32],
@@ -61,7 +62,7 @@ fn keep_all(
 {
     let mut track: usize = 0;
     while track < prices.len() {
-        keep_row(
+        bound_by_pair(
             sheet,
             reports,
             track,
@@ -88,13 +89,13 @@ fn lift(
     requires { ⌜ Lifting (now sheet) reports (length (now prices)) (now pairing) (now owner) (now prices) (now discounts) (now slack) ⌝ }
     ensures { λ _. ⌜ Lifting (now (sheet .entry)) reports (length (now (prices .entry))) (now (pairing .entry)) (now (owner .entry)) (now (prices .exit)) (now (discounts .exit)) (now (slack .exit)) ⌝ }
 {
-    let x = lesser(least_slack(owner, slack), LEFT_OUT - highest(prices));
-    if x == 0 {
+    let rise = lesser(least_slack(owner, slack), LEFT_OUT - highest(prices));
+    if rise == 0 {
         return;
     }
-    raise_paired(owner, x, discounts);
-    raise_paired(pairing, x, prices);
-    spend(slack, x);
+    raise_paired(owner, rise, discounts);
+    raise_paired(pairing, rise, prices);
+    spend(slack, rise);
 }
 
 // One turn, after all pairs have risen.
@@ -127,10 +128,11 @@ fn lifted_turn(
         via,
         closings,
     );
-    let label = r.label;
-    tighten(labels, label, slack);
+    let reach = r.label;
+    tighten(labels, reach, slack);
 }
 
+// Turns until no track is without a report.
 fn lifted_turns(
     sheet: &[u32],
     reports: usize,
@@ -146,16 +148,16 @@ fn lifted_turns(
     requires { ⌜ Lifting (now sheet) reports (length (now prices)) (now pairing) (now owner) (now prices) (now discounts) (now slack) × Rooms reports (now labels) (now via) (now closings) ⌝ }
     ensures { λ _. ⌜ Good (now (sheet .entry)) reports (length (now (prices .entry))) (now (pairing .exit)) (now (owner .exit)) (now (prices .exit)) (now (discounts .exit)) ⌝ }
 {
-    let mut k: usize = 0;
-    while k < prices.len() {
-        let t = next_turn(pairing, prices);
-        if t == 0 {
+    let mut round: usize = 0;
+    while round < prices.len() {
+        let turn = next_turn(pairing, prices);
+        if turn == 0 {
             return;
         }
         lifted_turn(
             sheet,
             reports,
-            t - 1,
+            turn - 1,
             pairing,
             owner,
             prices,
@@ -165,16 +167,20 @@ fn lifted_turns(
             closings,
             slack,
         );
-        k += 1;
+        round += 1;
     }
 }
 
 // The rounds end with a long search.
-fn next_round(k: usize, rounds: usize, closed: u32) -> usize
-    requires { ⌜ k < rounds ⌝ }
-    ensures { λ r. ⌜ (k < r) × (r ≤ rounds) ⌝ }
+fn next_round(round: usize, rounds: usize, closed: u32) -> usize
+    requires { ⌜ round < rounds ⌝ }
+    ensures { λ r. ⌜ (round < r) × (r ≤ rounds) ⌝ }
 {
-    if closed >= LONG_SEARCH { rounds } else { k + 1 }
+    if closed >= LONG_SEARCH {
+        rounds
+    } else {
+        round + 1
+    }
 }
 
 // Turns until no track is without a report, or a search was long.
@@ -192,16 +198,16 @@ fn first_turns(
     requires { ⌜ Good (now sheet) reports (length (now prices)) (now pairing) (now owner) (now prices) (now discounts) × Rooms reports (now labels) (now via) (now closings) ⌝ }
     ensures { λ _. ⌜ Good (now (sheet .entry)) reports (length (now (prices .entry))) (now (pairing .exit)) (now (owner .exit)) (now (prices .exit)) (now (discounts .exit)) ⌝ }
 {
-    let mut k: usize = 0;
-    while k < prices.len() {
-        let t = next_turn(pairing, prices);
-        if t == 0 {
+    let mut round: usize = 0;
+    while round < prices.len() {
+        let turn = next_turn(pairing, prices);
+        if turn == 0 {
             return;
         }
         let r = insert(
             sheet,
             reports,
-            t - 1,
+            turn - 1,
             pairing,
             owner,
             prices,
@@ -211,7 +217,7 @@ fn first_turns(
             closings,
         );
         let closed = r.closed;
-        k = next_round(k, prices.len(), closed);
+        round = next_round(round, prices.len(), closed);
     }
 }
 
@@ -235,7 +241,7 @@ fn later_turns(
         return;
     }
     fill(slack, LEFT_OUT);
-    keep_all(sheet, reports, pairing, owner, prices, discounts, slack);
+    bound_by_pairs(sheet, reports, pairing, owner, prices, discounts, slack);
     lifted_turns(
         sheet,
         reports,

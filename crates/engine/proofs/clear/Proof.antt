@@ -1,5 +1,5 @@
 use Rattle.engine.proofs.Begin.{blank}
-use mathlib.Core.Path.{_∙_}
+use Rattle.paths.proofs.Swap.{reshaped}
 use native.Mathlib.Omega.{arith}
 use borrow.Author.Needs.{needs}
 use Rattle.engine.proofs.clear.Statement.{statement}
@@ -36,7 +36,7 @@ returns c =
     let fill3 = c .before .before .before .before .before .before .fill3 in
     let S = c .before .before .before .before .before .before .before .before .before .before .before .before .before .before .before .before .before .before .before .before .before .pre in (
       blank _ _ _ _ _ _ _
-          (record { cells-long = S .cells-long; pairing-long = fill .ensures .0 ∙ S .pairing-long; owner-long = fill2 .ensures .0 ∙ S .owner-long; prices-long = fill3 .ensures .0; discounts-long = c .before .before .fill4 .ensures .0 ∙ S .discounts-long; tracks-few = S .tracks-few; reports-few = S .reports-few; cells-good = S .cells-good })
+          (reshaped S (fill .ensures .0) (fill2 .ensures .0) (fill3 .ensures .0) (c .before .before .fill4 .ensures .0))
           (λ i h. fill .ensures .1 i (omega (arith, S .pairing-long)))
           (λ j h. fill2 .ensures .1 j (omega (arith, S .owner-long)))
           (λ i h. fill3 .ensures .1 i h)

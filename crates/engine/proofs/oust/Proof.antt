@@ -5,20 +5,20 @@ use native.Mathlib.Omega.{arith}
 use Rattle.engine.proofs.oust.Statement.{statement}
 use Rattle.engine.proofs.oust.Tie as tie
 
-idx-requires : tie.Need-idx-requires
-idx-requires c κs = search needs
+index-requires : tie.Need-index-requires
+index-requires c κs = search needs
 
-idx-requires-2 : tie.Need-idx-requires-2
-idx-requires-2 c κs = search needs
+index-requires-2 : tie.Need-index-requires-2
+index-requires-2 c κs = search needs
 
-mul-idx : tie.Need-mul-idx
-mul-idx c = search needs
+mul-index : tie.Need-mul-index
+mul-index c = search needs
 
-slice-read-idx : tie.Need-slice-read-idx
-slice-read-idx c = search needs
+slice-read-index : tie.Need-slice-read-index
+slice-read-index c = search needs
 
-idx-requires-3 : tie.Need-idx-requires-3
-idx-requires-3 c κs = search needs
+index-requires-3 : tie.Need-index-requires-3
+index-requires-3 c κs = search needs
 
 returns : tie.Need-returns
 returns c = lost _ _ _ _ _ _ _ _ (c .before .before .before .before .before .before .before .before .before .before .pre)
@@ -48,7 +48,7 @@ mul-pairing-2 : tie.Need-mul-pairing-2
 mul-pairing-2 c = search needs
 
 slice-write-pairing-2 : tie.Need-slice-write-pairing-2
-slice-write-pairing-2 c = simp length-set (omega (arith, c .before .before .before .before .before .before .before .idx .ensures, c .before .before .before .before .before .before .before .before .before .before .before .before .before .pre .track-in, c .before .before .before .before .before .before .before .before .before .before .before .before .before .pre .good .shape .pairing-long))
+slice-write-pairing-2 c = simp length-set (omega (arith, c .before .before .before .before .before .before .before .index .ensures, c .before .before .before .before .before .before .before .before .before .before .before .before .before .pre .track-in, c .before .before .before .before .before .before .before .before .before .before .before .before .before .pre .good .shape .pairing-long))
 
 mul-owner : tie.Need-mul-owner
 mul-owner c = search needs
@@ -63,17 +63,17 @@ same-length-2 : tie.Need-same-length-2
 same-length-2 c = search needs
 
 returns-3 : tie.Need-returns-3
-returns-3 c = ousted _ _ _ _ _ _ _ _ (c .before .before .before .before .before .before .before .before .before .before .before .before .before .pre) _ _ _ (c .before .before .before .before .before .before .before .idx .ensures) (c .before .before .before .before .before .before .idx2 .ensures) (c .before .before .before .before .idx3 .ensures) (c .before .before .before .if1 .left)
+returns-3 c = ousted _ _ _ _ _ _ _ _ (c .before .before .before .before .before .before .before .before .before .before .before .before .before .pre) _ _ _ (c .before .before .before .before .before .before .before .index .ensures) (c .before .before .before .before .before .before .index2 .ensures) (c .before .before .before .before .index3 .ensures) (c .before .before .before .if1 .left)
 
 pub oust-spec : {M : Type 1} → statement M
 oust-spec =
     tie.close
     (tie.spec
-    idx-requires
-    idx-requires-2
-    mul-idx
-    slice-read-idx
-    idx-requires-3
+    index-requires
+    index-requires-2
+    mul-index
+    slice-read-index
+    index-requires-3
     returns
     mul-if2
     shared-slice-read-if2

@@ -4,42 +4,42 @@ use borrow.Author.Needs.{needs}
 use Rattle.engine.proofs.visit.Statement.{statement}
 use Rattle.engine.proofs.visit.Tie as tie
 
-idx-requires : tie.Need-idx-requires
-idx-requires c κs = search needs
+index-requires : tie.Need-index-requires
+index-requires c κs = search needs
 
-mul-p : tie.Need-mul-p
-mul-p c = let s = c .before .before .before .before .before .before .before .before .before in
-    let q = c .idx .ensures in
+mul-report : tie.Need-mul-report
+mul-report c = let s = c .before .before .before .before .before .before .before .before .before in
+    let q = c .index .ensures in
     omega (arith, q, s .pre .track-in, s .pre .good .shape .pairing-long, s .pre .good .shape .tracks-few)
 
-slice-read-p : tie.Need-slice-read-p
-slice-read-p c = let s = c .before .before .before .before .before .before .before .before .before .before in
-    let q = c .before .idx .ensures in
+slice-read-report : tie.Need-slice-read-report
+slice-read-report c = let s = c .before .before .before .before .before .before .before .before .before .before in
+    let q = c .before .index .ensures in
     omega (arith, q, s .pre .track-in, s .pre .good .shape .pairing-long, s .pre .good .shape .tracks-few)
 
 returns : tie.Need-returns
 returns c = let s = c .before .before .before .before .before .before .before .before .before .before .before in
-    let q = c .before .before .idx .ensures in
+    let q = c .before .before .index .ensures in
     visit-pair _ _ _ _ _ _ _ _ _ _ (s .pre) _ q (c .if1 .taken)
 
-mul-v : tie.Need-mul-v
-mul-v c = let s = c .before .before .before .before .before .before .before .before .before .before .before in
-    let q = c .before .before .idx .ensures in
+mul-price : tie.Need-mul-price
+mul-price c = let s = c .before .before .before .before .before .before .before .before .before .before .before in
+    let q = c .before .before .index .ensures in
     omega (arith, q, s .pre .track-in, s .pre .good .shape .pairing-long, s .pre .good .shape .tracks-few)
 
-slice-read-v : tie.Need-slice-read-v
-slice-read-v c = let s = c .before .before .before .before .before .before .before .before .before .before .before .before in
-    let q = c .before .before .before .idx .ensures in
+slice-read-price : tie.Need-slice-read-price
+slice-read-price c = let s = c .before .before .before .before .before .before .before .before .before .before .before .before in
+    let q = c .before .before .before .index .ensures in
     omega (arith, q, s .pre .track-in, s .pre .good .shape .pairing-long, s .pre .good .shape .tracks-few)
 
 returns-2 : tie.Need-returns-2
 returns-2 c = let s = c .before .before .before .before .before .before .before .before .before .before .before .before .before in
-    let q = c .before .before .before .before .idx .ensures in
+    let q = c .before .before .before .before .index .ensures in
     visit-left _ _ _ _ _ _ _ _ _ _ (s .pre) _ q (c .if2 .taken)
 
 insert-requires : tie.Need-insert-requires
 insert-requires c κs = let s = c .before .before .before .before .before .before .before .before .before .before .before .before .before .before .before .before .before .before .before .before in
-    let q = c .before .before .before .before .before .before .before .before .before .before .before .idx .ensures in
+    let q = c .before .before .before .before .before .before .before .before .before .before .before .index .ensures in
     visit-ready _ _ _ _ _ _ _ _ _ _ (s .pre) _ q (c .before .before .before .before .before .before .before .before .before .if1 .left)
 
 same-length : tie.Need-same-length
@@ -70,12 +70,12 @@ pub visit-spec : {M : Type 1} → statement M
 visit-spec =
     tie.close
     (tie.spec
-    idx-requires
-    mul-p
-    slice-read-p
+    index-requires
+    mul-report
+    slice-read-report
     returns
-    mul-v
-    slice-read-v
+    mul-price
+    slice-read-price
     returns-2
     insert-requires
     same-length

@@ -11,22 +11,22 @@ use Rattle.lifting.proofs.highest.Statement.{statement}
 use Rattle.lifting.proofs.highest.Tie as tie
 
 abbrev Inv-loop : tie.InvT-loop
-Inv-loop a best₀ j₀ best j = (j ≤ length a) × ((best ≤ leftOut) × ((k : ℕ) → k < j → at a k ≤ best))
+Inv-loop prices best₀ j₀ best j = (j ≤ length prices) × ((best ≤ leftOut) × ((k : ℕ) → k < j → at prices k ≤ best))
 
 abbrev μ-loop : tie.MeasureT-loop
-μ-loop a best₀ j₀ best j = length a - j
+μ-loop prices best₀ j₀ best j = length prices - j
 
 loop-holds : tie.Need-loop-holds Inv-loop μ-loop
 loop-holds c = (search needs, (omega arith, below-none _))
 
-mul-high : tie.Need-mul-high Inv-loop μ-loop
-mul-high c = search needs
+mul-greater : tie.Need-mul-greater Inv-loop μ-loop
+mul-greater c = search needs
 
-shared-slice-read-high : tie.Need-shared-slice-read-high Inv-loop μ-loop
-shared-slice-read-high c = search needs
+shared-slice-read-greater : tie.Need-shared-slice-read-greater Inv-loop μ-loop
+shared-slice-read-greater c = search needs
 
-high-requires : tie.Need-high-requires Inv-loop μ-loop
-high-requires c κs = (omega (arith, c .before .before .before .before .pre (c .before .before .loop .j) (c .before .loop-test .taken)), omega (arith, c .before .before .loop .inv .1 .0))
+greater-requires : tie.Need-greater-requires Inv-loop μ-loop
+greater-requires c κs = (omega (arith, c .before .before .before .before .pre (c .before .before .loop .j) (c .before .loop-test .taken)), omega (arith, c .before .before .loop .inv .1 .0))
 
 add-j : tie.Need-add-j Inv-loop μ-loop
 add-j c = search needs
@@ -37,10 +37,10 @@ loop-less c = search needs
 loop-again : tie.Need-loop-again Inv-loop μ-loop
 loop-again c =
     let p = c .before .before .before .loop in
-    let l = c .high .ensures in (
+    let l = c .greater .ensures in (
       search needs,
       (
-        ⊎-elim (λ g. omega (arith, l .1 .1 .1 g, c .before .before .before .before .before .pre (p .j) (c .before .before .loop-test .taken))) (λ g. omega (arith, l .1 .1 .0 g, p .inv .1 .0)) (le-or-lt (p .best) (at (c .before .before .before .before .before .args .a .now) (p .j))),
+        ⊎-elim (λ g. omega (arith, l .1 .1 .1 g, c .before .before .before .before .before .pre (p .j) (c .before .before .loop-test .taken))) (λ g. omega (arith, l .1 .1 .0 g, p .inv .1 .0)) (le-or-lt (p .best) (at (c .before .before .before .before .before .args .prices .now) (p .j))),
         below-more _ _ (λ k h. omega (arith, l .1 .0, p .inv .1 .1 k h)) (omega (arith, l .0)),
       ),
     )
@@ -55,9 +55,9 @@ highest-spec =
     Inv-loop
     μ-loop
     loop-holds
-    mul-high
-    shared-slice-read-high
-    high-requires
+    mul-greater
+    shared-slice-read-greater
+    greater-requires
     add-j
     loop-less
     loop-again

@@ -33,8 +33,8 @@ shared-slice-read-if-free-2 c = search needs
 if-free-requires : tie.Need-if-free-requires Inv-loop μ-loop
 if-free-requires c κs = c .before .before .before .before .before .before .pre .small (c .before .before .before .loop .j) (c .before .before .loop-test .taken)
 
-low-requires : tie.Need-low-requires Inv-loop μ-loop
-low-requires c κs = (omega (arith, c .if-free .ensures .0), omega (arith, c .before .before .before .before .loop .inv .1 .0))
+lesser-requires : tie.Need-lesser-requires Inv-loop μ-loop
+lesser-requires c κs = (omega (arith, c .if-free .ensures .0), omega (arith, c .before .before .before .before .loop .inv .1 .0))
 
 add-j : tie.Need-add-j Inv-loop μ-loop
 add-j c = search needs
@@ -45,7 +45,7 @@ loop-less c = search needs
 loop-again : tie.Need-loop-again Inv-loop μ-loop
 loop-again c =
     let p = c .before .before .before .before .before .loop in
-    let l = c .low .ensures in (
+    let l = c .lesser .ensures in (
       search needs,
       (
         omega (arith, l .1 .0, p .inv .1 .0),
@@ -68,7 +68,7 @@ least-slack-spec =
     mul-if-free-2
     shared-slice-read-if-free-2
     if-free-requires
-    low-requires
+    lesser-requires
     add-j
     loop-less
     loop-again

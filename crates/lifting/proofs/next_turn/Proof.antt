@@ -2,6 +2,7 @@ use Rattle.laws.proofs.Stores.{le-or-lt}
 use mathlib.Core.Logic.{⊎-elim}
 use Rattle.laws.specs.Lists.{at}
 use Rattle.matching.specs.Pairing.{none}
+use Rattle.passes.specs.Cells.{keyPlaces}
 use mathlib.Core.Path.{_≡_}
 use Prim.Native.Nat.{_≤_, _<_, _-_, _%_, _^_}
 use lib.ListN.{length}
@@ -12,7 +13,7 @@ use Rattle.lifting.proofs.next_turn.Statement.{statement}
 use Rattle.lifting.proofs.next_turn.Tie as tie
 
 abbrev Inv-loop : tie.InvT-loop
-Inv-loop pairing prices best₀ j₀ best j = (j ≤ length prices) × ((best < 2 ^ 31) × (0 < best → ((best - 1) % 256 < length prices) × (at pairing ((best - 1) % 256) ≡ none)))
+Inv-loop pairing prices best₀ j₀ best j = (j ≤ length prices) × ((best < 2 ^ 31) × (0 < best → ((best - 1) % keyPlaces < length prices) × (at pairing ((best - 1) % keyPlaces) ≡ none)))
 
 abbrev μ-loop : tie.MeasureT-loop
 μ-loop pairing prices best₀ j₀ best j = length prices - j
@@ -20,11 +21,11 @@ abbrev μ-loop : tie.MeasureT-loop
 loop-holds : tie.Need-loop-holds Inv-loop μ-loop
 loop-holds c = (search needs, (omega arith, λ h. absurd (omega arith)))
 
-mul-v : tie.Need-mul-v Inv-loop μ-loop
-mul-v c = search needs
+mul-price : tie.Need-mul-price Inv-loop μ-loop
+mul-price c = search needs
 
-shared-slice-read-v : tie.Need-shared-slice-read-v Inv-loop μ-loop
-shared-slice-read-v c = search needs
+shared-slice-read-price : tie.Need-shared-slice-read-price Inv-loop μ-loop
+shared-slice-read-price c = search needs
 
 mul-if-unpaired : tie.Need-mul-if-unpaired Inv-loop μ-loop
 mul-if-unpaired c = search needs
@@ -41,8 +42,8 @@ turn-of-requires c κs = omega (arith, c .before .before .before .before .before
 if-unpaired-requires : tie.Need-if-unpaired-requires Inv-loop μ-loop
 if-unpaired-requires c κs = c .before .before .before .before .before .before .before .pre .1 .1 (c .before .before .before .before .loop .j) (c .before .before .before .loop-test .taken)
 
-high-requires : tie.Need-high-requires Inv-loop μ-loop
-high-requires c κs = (omega (arith, c .if-unpaired .ensures .0, c .before .turn-of .ensures .0), c .before .before .before .before .before .loop .inv .1 .0)
+greater-requires : tie.Need-greater-requires Inv-loop μ-loop
+greater-requires c κs = (omega (arith, c .if-unpaired .ensures .0, c .before .turn-of .ensures .0), c .before .before .before .before .before .loop .inv .1 .0)
 
 add-j : tie.Need-add-j Inv-loop μ-loop
 add-j c = search needs
@@ -53,7 +54,7 @@ loop-less c = search needs
 loop-again : tie.Need-loop-again Inv-loop μ-loop
 loop-again c =
     let p = c .before .before .before .before .before .before .loop in
-    let l = c .high .ensures in
+    let l = c .greater .ensures in
     let e = c .before .if-unpaired .ensures in
     let t = c .before .before .turn-of .ensures in (
       search needs,
@@ -84,14 +85,14 @@ next-turn-spec =
     Inv-loop
     μ-loop
     loop-holds
-    mul-v
-    shared-slice-read-v
+    mul-price
+    shared-slice-read-price
     mul-if-unpaired
     shared-slice-read-if-unpaired
     cast-turn-of
     turn-of-requires
     if-unpaired-requires
-    high-requires
+    greater-requires
     add-j
     loop-less
     loop-again

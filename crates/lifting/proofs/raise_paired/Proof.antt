@@ -11,10 +11,10 @@ use Rattle.lifting.proofs.raise_paired.Statement.{statement}
 use Rattle.lifting.proofs.raise_paired.Tie as tie
 
 abbrev Inv-loop : tie.InvT-loop
-Inv-loop other x a₀ j₀ a j = (j ≤ length a₀) × ((length a ≡ length a₀) × (((k : ℕ) → k < j → (at other k ≡ none → at a k ≡ at a₀ k) × ((at other k ≡ none → ⊥) → at a k ≡ at a₀ k + x)) × ((k : ℕ) → j ≤ k → at a k ≡ at a₀ k)))
+Inv-loop other rise a₀ j₀ a j = (j ≤ length a₀) × ((length a ≡ length a₀) × (((k : ℕ) → k < j → (at other k ≡ none → at a k ≡ at a₀ k) × ((at other k ≡ none → ⊥) → at a k ≡ at a₀ k + rise)) × ((k : ℕ) → j ≤ k → at a k ≡ at a₀ k)))
 
 abbrev μ-loop : tie.MeasureT-loop
-μ-loop other x a₀ j₀ a j = length a₀ - j
+μ-loop other rise a₀ j₀ a j = length a₀ - j
 
 loop-holds : tie.Need-loop-holds Inv-loop μ-loop
 loop-holds c = (search needs, (refl, (below-none _, λ k h. refl)))
@@ -63,7 +63,7 @@ loop-again c =
       (
         simp length-set (v .1 .0),
         (
-          upd (λ (k y : ℕ). (at (given .other .now) k ≡ none → y ≡ at (given .a .now) k) × ((at (given .other .now) k ≡ none → ⊥) → y ≡ at (given .a .now) k + given .x)) (p .a) (p .j) _ t (v .1 .1 .0)
+          upd (λ (k y : ℕ). (at (given .other .now) k ≡ none → y ≡ at (given .a .now) k) × ((at (given .other .now) k ≡ none → ⊥) → y ≡ at (given .a .now) k + given .rise)) (p .a) (p .j) _ t (v .1 .1 .0)
               (λ z. omega (arith, e .1 .0 z, v .1 .1 .1 (p .j) (omega arith)), λ z. omega (arith, e .1 .1 z, v .1 .1 .1 (p .j) (omega arith))),
           keep (p .a) (given .a .now) (p .j) _ (v .1 .1 .1),
         ),

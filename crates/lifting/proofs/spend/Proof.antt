@@ -10,22 +10,22 @@ use Rattle.lifting.proofs.spend.Statement.{statement}
 use Rattle.lifting.proofs.spend.Tie as tie
 
 abbrev Inv-loop : tie.InvT-loop
-Inv-loop slack₀ x j₀ slack j = (j ≤ length slack₀) × ((length slack ≡ length slack₀) × (((k : ℕ) → k < j → at slack k ≡ at slack₀ k - x) × ((k : ℕ) → j ≤ k → at slack k ≡ at slack₀ k)))
+Inv-loop slack₀ rise j₀ slack j = (j ≤ length slack₀) × ((length slack ≡ length slack₀) × (((k : ℕ) → k < j → at slack k ≡ at slack₀ k - rise) × ((k : ℕ) → j ≤ k → at slack k ≡ at slack₀ k)))
 
 abbrev μ-loop : tie.MeasureT-loop
-μ-loop slack₀ x j₀ slack j = length slack₀ - j
+μ-loop slack₀ rise j₀ slack j = length slack₀ - j
 
 loop-holds : tie.Need-loop-holds Inv-loop μ-loop
 loop-holds c = (search needs, (refl, (below-none _, λ k h. refl)))
 
-mul-beyond : tie.Need-mul-beyond Inv-loop μ-loop
-mul-beyond c = search needs
+mul-excess : tie.Need-mul-excess Inv-loop μ-loop
+mul-excess c = search needs
 
-slice-read-beyond : tie.Need-slice-read-beyond Inv-loop μ-loop
-slice-read-beyond c = search needs
+slice-read-excess : tie.Need-slice-read-excess Inv-loop μ-loop
+slice-read-excess c = search needs
 
-beyond-requires : tie.Need-beyond-requires Inv-loop μ-loop
-beyond-requires c κs =
+excess-requires : tie.Need-excess-requires Inv-loop μ-loop
+excess-requires c κs =
     let p = c .before .before .before .before .pre in
     let g : c .before .before .loop .j < length (c .before .before .before .before .args .slack .now) = omega (arith, c .before .before .loop .inv .1 .0, c .before .loop-test .taken) in
     (omega (arith, p .1 (c .before .before .loop .j) g, c .before .before .loop .inv .1 .1 .1 (c .before .before .loop .j) (omega arith)), omega (arith, p .0))
@@ -52,8 +52,8 @@ loop-again c =
       (
         simp length-set (v .1 .0),
         (
-          upd (λ (k y : ℕ). y ≡ at (given .slack .now) k - given .x) (a .slack) (a .j) _ t (v .1 .1 .0)
-              (omega (arith, c .beyond .ensures, v .1 .1 .1 (a .j) (omega arith))),
+          upd (λ (k y : ℕ). y ≡ at (given .slack .now) k - given .rise) (a .slack) (a .j) _ t (v .1 .1 .0)
+              (omega (arith, c .excess .ensures, v .1 .1 .1 (a .j) (omega arith))),
           keep (a .slack) (given .slack .now) (a .j) _ (v .1 .1 .1),
         ),
       ),
@@ -74,9 +74,9 @@ spend-spec =
     Inv-loop
     μ-loop
     loop-holds
-    mul-beyond
-    slice-read-beyond
-    beyond-requires
+    mul-excess
+    slice-read-excess
+    excess-requires
     mul-slack
     slice-write-slack
     add-j

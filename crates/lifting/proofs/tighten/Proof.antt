@@ -10,37 +10,37 @@ use Rattle.lifting.proofs.tighten.Statement.{statement}
 use Rattle.lifting.proofs.tighten.Tie as tie
 
 abbrev Inv-loop : tie.InvT-loop
-Inv-loop labels d slack₀ j₀ slack j = (j ≤ length slack₀) × ((length slack ≡ length slack₀) × (((k : ℕ) → k < j → (at slack k ≤ at slack₀ k) × (at slack k ≤ at labels k - d)) × ((k : ℕ) → j ≤ k → at slack k ≡ at slack₀ k)))
+Inv-loop labels reach slack₀ j₀ slack j = (j ≤ length slack₀) × ((length slack ≡ length slack₀) × (((k : ℕ) → k < j → (at slack k ≤ at slack₀ k) × (at slack k ≤ at labels k - reach)) × ((k : ℕ) → j ≤ k → at slack k ≡ at slack₀ k)))
 
 abbrev μ-loop : tie.MeasureT-loop
-μ-loop labels d slack₀ j₀ slack j = length slack₀ - j
+μ-loop labels reach slack₀ j₀ slack j = length slack₀ - j
 
 loop-holds : tie.Need-loop-holds Inv-loop μ-loop
 loop-holds c = (search needs, (refl, (below-none _, λ k h. refl)))
 
-mul-beyond : tie.Need-mul-beyond Inv-loop μ-loop
-mul-beyond c = search needs
+mul-excess : tie.Need-mul-excess Inv-loop μ-loop
+mul-excess c = search needs
 
-shared-slice-read-beyond : tie.Need-shared-slice-read-beyond Inv-loop μ-loop
-shared-slice-read-beyond c = omega (arith, c .before .before .before .before .before .pre .same, c .before .before .loop .inv .1 .0)
+shared-slice-read-excess : tie.Need-shared-slice-read-excess Inv-loop μ-loop
+shared-slice-read-excess c = omega (arith, c .before .before .before .before .before .pre .same, c .before .before .loop .inv .1 .0)
 
-beyond-requires : tie.Need-beyond-requires Inv-loop μ-loop
-beyond-requires c κs =
+excess-requires : tie.Need-excess-requires Inv-loop μ-loop
+excess-requires c κs =
     let p = c .before .before .before .before .before .pre in
-    (omega (arith, p .labels-small (c .before .before .loop .j) (omega (arith, p .same, c .before .before .loop .inv .1 .0, c .before .loop-test .taken))), omega (arith, p .end))
+    (omega (arith, p .searched .labels-in (c .before .before .loop .j) (omega (arith, p .same, c .before .before .loop .inv .1 .0, c .before .loop-test .taken))), omega (arith, p .searched .reach-in))
 
-mul-low : tie.Need-mul-low Inv-loop μ-loop
-mul-low c = search needs
+mul-lesser : tie.Need-mul-lesser Inv-loop μ-loop
+mul-lesser c = search needs
 
-slice-read-low : tie.Need-slice-read-low Inv-loop μ-loop
-slice-read-low c = search needs
+slice-read-lesser : tie.Need-slice-read-lesser Inv-loop μ-loop
+slice-read-lesser c = search needs
 
-low-requires : tie.Need-low-requires Inv-loop μ-loop
-low-requires c κs =
+lesser-requires : tie.Need-lesser-requires Inv-loop μ-loop
+lesser-requires c κs =
     let p = c .before .before .before .before .before .before .before .pre in
     let l = c .before .before .before .before .loop in
     let g : l .j < length (c .before .before .before .before .before .before .before .args .slack .now) = omega (arith, l .inv .1 .0, c .before .before .before .loop-test .taken) in
-    (omega (arith, c .before .beyond .ensures, p .labels-small (l .j) (omega (arith, p .same))), omega (arith, p .small (l .j) g, l .inv .1 .1 .1 (l .j) (omega arith)))
+    (omega (arith, c .before .excess .ensures, p .searched .labels-in (l .j) (omega (arith, p .same))), omega (arith, p .small (l .j) g, l .inv .1 .1 .1 (l .j) (omega arith)))
 
 mul-slack : tie.Need-mul-slack Inv-loop μ-loop
 mul-slack c = search needs
@@ -60,13 +60,13 @@ loop-again c =
     let a = c .before .before .before .before .before .loop in
     let v = a .inv in
     let t = c .before .before .before .before .loop-test .taken in
-    let l = c .low .ensures in (
+    let l = c .lesser .ensures in (
       omega (arith, v .1 .0),
       (
         simp length-set (v .1 .0),
         (
-          upd (λ (k x : ℕ). (x ≤ at (given .slack .now) k) × (x ≤ at (given .labels .now) k - given .d)) (a .slack) (a .j) _ t (v .1 .1 .0)
-              (omega (arith, l .1 .0, v .1 .1 .1 (a .j) (omega arith)), omega (arith, l .0, c .before .before .beyond .ensures)),
+          upd (λ (k x : ℕ). (x ≤ at (given .slack .now) k) × (x ≤ at (given .labels .now) k - given .reach)) (a .slack) (a .j) _ t (v .1 .1 .0)
+              (omega (arith, l .1 .0, v .1 .1 .1 (a .j) (omega arith)), omega (arith, l .0, c .before .before .excess .ensures)),
           keep (a .slack) (given .slack .now) (a .j) _ (v .1 .1 .1),
         ),
       ),
@@ -87,12 +87,12 @@ tighten-spec =
     Inv-loop
     μ-loop
     loop-holds
-    mul-beyond
-    shared-slice-read-beyond
-    beyond-requires
-    mul-low
-    slice-read-low
-    low-requires
+    mul-excess
+    shared-slice-read-excess
+    excess-requires
+    mul-lesser
+    slice-read-lesser
+    lesser-requires
     mul-slack
     slice-write-slack
     add-j

@@ -7,11 +7,11 @@ use Rattle.passes.proofs.far_nearest.Tie as tie
 least-requires : tie.Need-least-requires
 least-requires c κs = search needs
 
-find-requires : tie.Need-find-requires
-find-requires c κs = search needs
+first-at-requires : tie.Need-first-at-requires
+first-at-requires c κs = search needs
 
 returns : tie.Need-returns
-returns c = let f = c .find .ensures in
+returns c = let f = c .first-at .ensures in
     let l = c .before .before .least .ensures in
     record {
       upto = f .upto;
@@ -30,4 +30,4 @@ returns-2 c = let l = c .before .least .ensures in
     }
 
 pub far-nearest-spec : {M : Type 1} → statement M
-far-nearest-spec = tie.close (tie.spec least-requires find-requires returns returns-2)
+far-nearest-spec = tie.close (tie.spec least-requires first-at-requires returns returns-2)

@@ -19,23 +19,23 @@ abbrev μ-loop : tie.MeasureT-loop
 loop-holds : tie.Need-loop-holds Inv-loop μ-loop
 loop-holds c = (search needs, (search needs, (below-none _, inl refl)))
 
-mul-low : tie.Need-mul-low Inv-loop μ-loop
-mul-low c = search needs
+mul-lesser : tie.Need-mul-lesser Inv-loop μ-loop
+mul-lesser c = search needs
 
-shared-slice-read-low : tie.Need-shared-slice-read-low Inv-loop μ-loop
-shared-slice-read-low c = search needs
+shared-slice-read-lesser : tie.Need-shared-slice-read-lesser Inv-loop μ-loop
+shared-slice-read-lesser c = search needs
 
-mul-low-2 : tie.Need-mul-low-2 Inv-loop μ-loop
-mul-low-2 c = search needs
+mul-lesser-2 : tie.Need-mul-lesser-2 Inv-loop μ-loop
+mul-lesser-2 c = search needs
 
-shared-slice-read-low-2 : tie.Need-shared-slice-read-low-2 Inv-loop μ-loop
-shared-slice-read-low-2 c = search needs
+shared-slice-read-lesser-2 : tie.Need-shared-slice-read-lesser-2 Inv-loop μ-loop
+shared-slice-read-lesser-2 c = search needs
 
-add-low : tie.Need-add-low Inv-loop μ-loop
-add-low c = omega (arith, c .before .before .before .before .before .before .pre .0 .small (c .before .before .before .loop .j) (c .before .before .loop-test .taken))
+add-lesser : tie.Need-add-lesser Inv-loop μ-loop
+add-lesser c = omega (arith, c .before .before .before .before .before .before .pre .0 .small (c .before .before .before .loop .j) (c .before .before .loop-test .taken))
 
-low-requires : tie.Need-low-requires Inv-loop μ-loop
-low-requires c κs = let a = c .before .before .before in
+lesser-requires : tie.Need-lesser-requires Inv-loop μ-loop
+lesser-requires c κs = let a = c .before .before .before in
     let s = a .before .before .before in
     let b : a .loop .best < 2 ^ 31 = omega (arith, a .loop .inv .1 .0, s .pre .1) in
     (s .pre .0 .small (a .loop .j) (c .before .before .loop-test .taken), b)
@@ -48,7 +48,7 @@ loop-less c = search needs
 
 loop-again : tie.Need-loop-again Inv-loop μ-loop
 loop-again c = let a = c .before .before .before .before in
-    let l = c .low .ensures in (
+    let l = c .lesser .ensures in (
       search needs,
       (
         search needs,
@@ -71,12 +71,12 @@ least-spec =
     Inv-loop
     μ-loop
     loop-holds
-    mul-low
-    shared-slice-read-low
-    mul-low-2
-    shared-slice-read-low-2
-    add-low
-    low-requires
+    mul-lesser
+    shared-slice-read-lesser
+    mul-lesser-2
+    shared-slice-read-lesser-2
+    add-lesser
+    lesser-requires
     add-j
     loop-less
     loop-again

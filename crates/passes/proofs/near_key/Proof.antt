@@ -1,6 +1,6 @@
 use Rattle.laws.proofs.Stores.{le-or-lt}
 use Rattle.laws.specs.Lists.{at}
-use Rattle.passes.specs.Cells.{near, reportNumbers}
+use Rattle.passes.specs.Cells.{near, keyPlaces}
 use Rattle.passes.proofs.Keys.{near-low, near-here, near-met}
 use borrow.Author.Count.{below-none, below-more}
 use mathlib.Core.Path.{_≡_}
@@ -13,7 +13,7 @@ use Rattle.passes.proofs.near_key.Statement.{statement}
 use Rattle.passes.proofs.near_key.Tie as tie
 
 abbrev Inv-loop : tie.InvT-loop
-Inv-loop labels closings best₀ j₀ best j = (j ≤ length labels) × ((best < 2 ^ 31) × (((k : ℕ) → k < j → best / reportNumbers ≤ at labels k + at closings k) × (best / reportNumbers < near → (best % reportNumbers < length labels) × (at labels (best % reportNumbers) + at closings (best % reportNumbers) ≡ best / reportNumbers))))
+Inv-loop labels closings best₀ j₀ best j = (j ≤ length labels) × ((best < 2 ^ 31) × (((k : ℕ) → k < j → best / keyPlaces ≤ at labels k + at closings k) × (best / keyPlaces < near → (best % keyPlaces < length labels) × (at labels (best % keyPlaces) + at closings (best % keyPlaces) ≡ best / keyPlaces))))
 
 abbrev μ-loop : tie.MeasureT-loop
 μ-loop labels closings best₀ j₀ best j = length labels - j
@@ -42,8 +42,8 @@ cast-near-of c = omega (arith, c .before .before .before .before .before .before
 near-of-requires : tie.Need-near-of-requires Inv-loop μ-loop
 near-of-requires c κs = (c .before .before .before .before .before .before .pre .small (c .before .before .before .loop .j) (c .before .before .loop-test .taken), omega (arith, c .before .before .before .before .before .before .pre .few))
 
-low-requires : tie.Need-low-requires Inv-loop μ-loop
-low-requires c κs = (c .near-of .ensures .1 .1, c .before .before .before .before .loop .inv .1 .0)
+lesser-requires : tie.Need-lesser-requires Inv-loop μ-loop
+lesser-requires c κs = (c .near-of .ensures .1 .1, c .before .before .before .before .loop .inv .1 .0)
 
 add-j : tie.Need-add-j Inv-loop μ-loop
 add-j c = search needs
@@ -54,9 +54,9 @@ loop-less c = search needs
 loop-again : tie.Need-loop-again Inv-loop μ-loop
 loop-again c =
     let a = c .before .before .before .before .before .loop in
-    let l = c .low .ensures in
+    let l = c .lesser .ensures in
     let e = c .before .near-of .ensures in
-    let q : a .j < 256 = omega (arith, c .before .before .before .before .before .before .before .before .pre .few, c .before .before .before .before .loop-test .taken) in (
+    let q : a .j < keyPlaces = omega (arith, c .before .before .before .before .before .before .before .before .pre .few, c .before .before .before .before .loop-test .taken) in (
       search needs,
       (
         omega (arith, l .1 .0),
@@ -84,7 +84,7 @@ near-key-spec =
     add-near-of
     cast-near-of
     near-of-requires
-    low-requires
+    lesser-requires
     add-j
     loop-less
     loop-again

@@ -22,14 +22,14 @@ returns-2 c =
       nobody = λ k h g. omega (arith, n .below k h);
     }
 
-idx-requires : tie.Need-idx-requires
-idx-requires c κs = search needs
+index-requires : tie.Need-index-requires
+index-requires c κs = search needs
 
 returns-3 : tie.Need-returns-3
 returns-3 c =
     let n = c .before .before .before .near-key .ensures in
     let m = n .met (omega arith) in
-    rw (c .idx .ensures) (record {
+    rw (c .index .ensures) (record {
       upto = omega (arith, m .0);
       here = λ h. omega (arith, m .1);
       least = λ k h g. omega (arith, m .1, n .below k h);
@@ -39,4 +39,4 @@ returns-3 c =
 pub nearest-spec : {M : Type 1} → statement M
 nearest-spec =
     tie.close
-    (tie.spec near-key-requires far-nearest-requires returns returns-2 idx-requires returns-3)
+    (tie.spec near-key-requires far-nearest-requires returns returns-2 index-requires returns-3)

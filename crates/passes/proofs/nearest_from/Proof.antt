@@ -36,7 +36,7 @@ nearest-requires c κs = from-labels _ _ _ _ (c .before .before .before .before 
 add-result : tie.Need-add-result
 add-result c =
     let given = c .before .before .before .before .before .args in
-    omega (arith, c .nearest .ensures .upto, part-length (given .labels .now) (given .lo) (length (given .labels .now)) (omega arith), c .before .before .before .before .before .pre .upto)
+    omega (arith, c .nearest .ensures .upto, part-length (given .labels .now) (given .front) (length (given .labels .now)) (omega arith), c .before .before .before .before .before .pre .upto)
 
 returns : tie.Need-returns
 returns c = from-nearest _ _ _ _ (c .before .before .before .before .before .pre) _ (c .nearest .ensures)

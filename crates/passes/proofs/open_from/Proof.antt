@@ -9,10 +9,10 @@ use Rattle.passes.proofs.open_from.Statement.{statement}
 use Rattle.passes.proofs.open_from.Tie as tie
 
 abbrev Inv-loop : tie.InvT-loop
-Inv-loop closings from j₀ j = (from ≤ j) × ((j ≤ length closings) × ((k : ℕ) → k < j → from ≤ k → at closings k ≡ 0 → ⊥))
+Inv-loop closings front j₀ j = (front ≤ j) × ((j ≤ length closings) × ((k : ℕ) → k < j → front ≤ k → at closings k ≡ 0 → ⊥))
 
 abbrev μ-loop : tie.MeasureT-loop
-μ-loop closings from j₀ j = length closings - j
+μ-loop closings front j₀ j = length closings - j
 
 loop-holds : tie.Need-loop-holds Inv-loop μ-loop
 loop-holds c = (search needs, (search needs, λ k h l. absurd (omega arith)))

@@ -8,10 +8,10 @@ use Rattle.passes.proofs.raise_prices.Statement.{statement}
 use Rattle.passes.proofs.raise_prices.Tie as tie
 
 abbrev Inv-loop : tie.InvT-loop
-Inv-loop pairing owner labels d prices₀ j₀ prices j = (j ≤ length labels) × ((length prices ≡ length prices₀) × Upto pairing labels d prices₀ j prices)
+Inv-loop pairing owner labels reach prices₀ j₀ prices j = (j ≤ length labels) × ((length prices ≡ length prices₀) × Upto pairing labels reach prices₀ j prices)
 
 abbrev μ-loop : tie.MeasureT-loop
-μ-loop pairing owner labels d prices₀ j₀ prices j = length labels - j
+μ-loop pairing owner labels reach prices₀ j₀ prices j = length labels - j
 
 loop-holds : tie.Need-loop-holds Inv-loop μ-loop
 loop-holds c = (search needs, (refl, λ i h. ((λ g. absurd (omega arith)), λ g. refl)))
@@ -22,19 +22,21 @@ mul-raise-one c = search needs
 shared-slice-read-raise-one : tie.Need-shared-slice-read-raise-one Inv-loop μ-loop
 shared-slice-read-raise-one c = search needs
 
-mul-over : tie.Need-mul-over Inv-loop μ-loop
-mul-over c = search needs
+mul-excess : tie.Need-mul-excess Inv-loop μ-loop
+mul-excess c = search needs
 
-shared-slice-read-over : tie.Need-shared-slice-read-over Inv-loop μ-loop
-shared-slice-read-over c = search needs
+shared-slice-read-excess : tie.Need-shared-slice-read-excess Inv-loop μ-loop
+shared-slice-read-excess c = search needs
 
-over-requires : tie.Need-over-requires Inv-loop μ-loop
-over-requires c κs = search needs
+excess-requires : tie.Need-excess-requires Inv-loop μ-loop
+excess-requires c κs = let a = c .before .before .before .before in
+    let s = a .before .before .before .before .before in
+    (omega (arith, s .pre .searched .reach-in), omega (arith, s .pre .searched .labels-in (a .loop .j) (c .before .before .before .loop-test .taken)))
 
 raise-one-requires : tie.Need-raise-one-requires Inv-loop μ-loop
 raise-one-requires c κs = let a = c .before .before .before .before .before in
     let s = a .before .before .before .before .before in
-    may (s .args .pairing .now) (s .args .owner .now) (s .args .labels .now) (s .args .prices .now) (s .args .d) (s .pre) (a .loop .j) (c .before .before .before .before .loop-test .taken) (a .loop .prices) (a .loop .inv .1 .0) (a .loop .inv .1 .1) (c .over .result) (c .over .ensures)
+    may (s .args .pairing .now) (s .args .owner .now) (s .args .labels .now) (s .args .prices .now) (s .args .reach) (s .pre) (a .loop .j) (c .before .before .before .before .loop-test .taken) (a .loop .prices) (a .loop .inv .1 .0) (a .loop .inv .1 .1) (c .excess .result) (c .excess .ensures)
 
 add-j : tie.Need-add-j Inv-loop μ-loop
 add-j c = search needs
@@ -46,7 +48,7 @@ loop-again : tie.Need-loop-again Inv-loop μ-loop
 loop-again c = let a = c .before .before .before .before .before .before .before .before in
     let s = a .before .before .before .before .before in
     let L = c .before .before .raise-one .ensures in
-    (search needs, (L .prices-long ∙ a .loop .inv .1 .0, raised _ _ _ _ _ (s .pre) (a .loop .j) (c .before .before .before .before .before .before .before .loop-test .taken) _ (a .loop .inv .1 .0) (a .loop .inv .1 .1) _ (c .before .before .before .over .ensures) _ L))
+    (search needs, (L .prices-long ∙ a .loop .inv .1 .0, raised _ _ _ _ _ (s .pre) (a .loop .j) (c .before .before .before .before .before .before .before .loop-test .taken) _ (a .loop .inv .1 .0) (a .loop .inv .1 .1) _ (c .before .before .before .excess .ensures) _ L))
 
 same-length : tie.Need-same-length Inv-loop μ-loop
 same-length c = search needs
@@ -64,9 +66,9 @@ raise-prices-spec =
     loop-holds
     mul-raise-one
     shared-slice-read-raise-one
-    mul-over
-    shared-slice-read-over
-    over-requires
+    mul-excess
+    shared-slice-read-excess
+    excess-requires
     raise-one-requires
     add-j
     loop-less

@@ -12,13 +12,13 @@ use Rattle.passes.proofs.relax.Statement.{statement}
 use Rattle.passes.proofs.relax.Tie as tie
 
 abbrev Inv-loop : tie.InvT-loop
-Inv-loop c w d u i labels₀ via₀ j₀ labels via j = Going c w d u i labels₀ via₀ j labels via
+Inv-loop cells discounts label price track labels₀ via₀ j₀ labels via j = Going cells discounts label price track labels₀ via₀ j labels via
 
 abbrev μ-loop : tie.MeasureT-loop
-μ-loop c w d u i labels₀ via₀ j₀ labels via j = length labels₀ - j
+μ-loop cells discounts label price track labels₀ via₀ j₀ labels via j = length labels₀ - j
 
 loop-holds : tie.Need-loop-holds Inv-loop μ-loop
-loop-holds c = record { in-range = search needs; labels-long = refl; via-long = c .before .before .before .before .pre .via-long; steps = below-none _; rest-d = λ k h. refl; rest-p = λ k h. refl }
+loop-holds c = record { in-range = search needs; labels-long = refl; via-long = c .before .before .before .before .pre .via-long; steps = below-none _; labels-rest = λ k h. refl; via-rest = λ k h. refl }
 
 mul-offer : tie.Need-mul-offer Inv-loop μ-loop
 mul-offer c = search needs
@@ -37,7 +37,7 @@ offer-requires c κs = let a = c .before .before .before in
     let p = a .before .before .before .before .before .pre in
     let j = a .loop .j in
     let h : j < length (a .before .before .before .before .before .args .labels .now) = omega (arith, a .loop .inv .labels-long) in
-    (p .discount-in j h, (p .offer-in, (p .price-in, (p .fair j h, p .cells-good j h))))
+    (p .discount-in j h, (p .from-in, (p .price-in, (p .fair j h, p .cells-good j h))))
 
 mul-before : tie.Need-mul-before Inv-loop μ-loop
 mul-before c = search needs
@@ -51,12 +51,12 @@ mul-via-before c = search needs
 slice-read-via-before : tie.Need-slice-read-via-before Inv-loop μ-loop
 slice-read-via-before c = search needs
 
-low-requires : tie.Need-low-requires Inv-loop μ-loop
-low-requires c κs = let a = c .before .before .before .before .before .before in
+lesser-requires : tie.Need-lesser-requires Inv-loop μ-loop
+lesser-requires c κs = let a = c .before .before .before .before .before .before in
     let s = a .before .before .before .before .before in
     let j = a .loop .j in
     let h : j < length (s .args .labels .now) = omega (arith, a .loop .inv .labels-long) in
-    let e : at (a .loop .labels) j ≡ at (s .args .labels .now) j = a .loop .inv .rest-d j (omega arith) in
+    let e : at (a .loop .labels) j ≡ at (s .args .labels .now) j = a .loop .inv .labels-rest j (omega arith) in
     let q : at (a .loop .labels) j < 2 ^ 31 = omega (arith, s .pre .labels-in j h) in
     (c .before .before .offer .ensures .1 .1, q)
 
@@ -66,12 +66,12 @@ mul-labels c = search needs
 slice-write-labels : tie.Need-slice-write-labels Inv-loop μ-loop
 slice-write-labels c = search needs
 
-pick-requires : tie.Need-pick-requires Inv-loop μ-loop
-pick-requires c κs = let a = c .before .before .before .before .before .before .before in
+choose-requires : tie.Need-choose-requires Inv-loop μ-loop
+choose-requires c κs = let a = c .before .before .before .before .before .before .before in
     let s = a .before .before .before .before .before in
     let j = a .loop .j in
     let h : j < length (s .args .labels .now) = omega (arith, a .loop .inv .labels-long) in
-    let e : at (a .loop .labels) j ≡ at (s .args .labels .now) j = a .loop .inv .rest-d j (omega arith) in
+    let e : at (a .loop .labels) j ≡ at (s .args .labels .now) j = a .loop .inv .labels-rest j (omega arith) in
     let q : at (a .loop .labels) j < 2 ^ 31 = omega (arith, s .pre .labels-in j h) in
     (c .before .before .before .offer .ensures .1 .1, q)
 
@@ -95,21 +95,21 @@ loop-again c = let a = c .before .before .before .before .before .before .before
     let v = a .loop .inv in
     let g : j < length (a .loop .labels) = c .before .before .before .before .before .before .before .loop-test .taken in
     let h : j < length (s .args .labels .now) = omega (arith, v .labels-long) in
-    let e : at (a .loop .labels) j ≡ at (s .args .labels .now) j = v .rest-d j (omega arith) in
-    let f : at (a .loop .via) j ≡ at (s .args .via .now) j = v .rest-p j (omega arith) in
+    let e : at (a .loop .labels) j ≡ at (s .args .labels .now) j = v .labels-rest j (omega arith) in
+    let f : at (a .loop .via) j ≡ at (s .args .via .now) j = v .via-rest j (omega arith) in
     let o = c .before .before .before .before .offer in
-    let l = c .before .low in
-    let t : Step (at (s .args .cells .now) j) (at (s .args .discounts .now) j) (s .args .label) (s .args .price) (s .args .track) (at (a .loop .labels) j) (at (a .loop .via) j) (l .result) (c .pick .result) =
+    let l = c .before .lesser in
+    let t : Step (at (s .args .cells .now) j) (at (s .args .discounts .now) j) (s .args .label) (s .args .price) (s .args .track) (at (a .loop .labels) j) (at (a .loop .via) j) (l .result) (c .choose .result) =
     step _ _ _ _ _ _ _ (o .result) _ _ (o .ensures .0) (o .ensures .1 .0) (omega (arith, p .labels-in j h, e))
-    (l .ensures .0) (l .ensures .1 .0) (l .ensures .1 .1 .0) (l .ensures .1 .1 .1) (c .pick .ensures .0) (c .pick .ensures .1) in
+    (l .ensures .0) (l .ensures .1 .0) (l .ensures .1 .1 .0) (l .ensures .1 .1 .1) (c .choose .ensures .0) (c .choose .ensures .1) in
     record {
       in-range = omega arith;
       labels-long = simp length-set (v .labels-long);
       via-long = simp length-set (v .via-long);
       steps = upd2 (λ (k x y : ℕ). Step (at (s .args .cells .now) k) (at (s .args .discounts .now) k) (s .args .label) (s .args .price) (s .args .track) (at (s .args .labels .now) k) (at (s .args .via .now) k) x y)
           (a .loop .labels) (a .loop .via) j _ _ g (omega (arith, v .via-long, v .labels-long)) (v .steps) (rw (e, f) at t);
-      rest-d = keep (a .loop .labels) (s .args .labels .now) j _ (v .rest-d);
-      rest-p = keep (a .loop .via) (s .args .via .now) j _ (v .rest-p);
+      labels-rest = keep (a .loop .labels) (s .args .labels .now) j _ (v .labels-rest);
+      via-rest = keep (a .loop .via) (s .args .via .now) j _ (v .via-rest);
     }
 
 same-length : tie.Need-same-length Inv-loop μ-loop
@@ -137,10 +137,10 @@ relax-spec =
     slice-read-before
     mul-via-before
     slice-read-via-before
-    low-requires
+    lesser-requires
     mul-labels
     slice-write-labels
-    pick-requires
+    choose-requires
     mul-via
     slice-write-via
     add-j

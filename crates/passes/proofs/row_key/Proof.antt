@@ -1,6 +1,6 @@
 use Rattle.laws.proofs.Stores.{le-or-lt}
 use Rattle.laws.specs.Lists.{at}
-use Rattle.passes.specs.Cells.{key}
+use Rattle.passes.specs.Cells.{lastKey, key}
 use borrow.Author.Count.{below-none, below-more}
 use borrow.Author.Needs.{needs}
 use mathlib.Core.Path.{_≡_, refl}
@@ -12,10 +12,10 @@ use Rattle.passes.proofs.row_key.Statement.{statement}
 use Rattle.passes.proofs.row_key.Tie as tie
 
 abbrev Inv-loop : tie.InvT-loop
-Inv-loop c best₀ j₀ best j = (j ≤ length c) × ((best < 2 ^ 31) × (((k : ℕ) → k < j → best ≤ key (at c k) k) × ((best ≡ 2147483647) ⊎ ((k : ℕ) × ((k < length c) × (best ≡ key (at c k) k))))))
+Inv-loop cells best₀ j₀ best j = (j ≤ length cells) × ((best < 2 ^ 31) × (((k : ℕ) → k < j → best ≤ key (at cells k) k) × ((best ≡ lastKey) ⊎ ((k : ℕ) × ((k < length cells) × (best ≡ key (at cells k) k))))))
 
 abbrev μ-loop : tie.MeasureT-loop
-μ-loop c best₀ j₀ best j = length c - j
+μ-loop cells best₀ j₀ best j = length cells - j
 
 loop-holds : tie.Need-loop-holds Inv-loop μ-loop
 loop-holds c = (search needs, (omega arith, (below-none _, inl refl)))
@@ -32,8 +32,8 @@ cast-key-of c = search needs
 key-of-requires : tie.Need-key-of-requires Inv-loop μ-loop
 key-of-requires c κs = search needs
 
-low-requires : tie.Need-low-requires Inv-loop μ-loop
-low-requires c κs = (c .key-of .ensures .1, c .before .before .before .loop .inv .1 .0)
+lesser-requires : tie.Need-lesser-requires Inv-loop μ-loop
+lesser-requires c κs = (c .key-of .ensures .1, c .before .before .before .loop .inv .1 .0)
 
 add-j : tie.Need-add-j Inv-loop μ-loop
 add-j c = search needs
@@ -43,7 +43,7 @@ loop-less c = search needs
 
 loop-again : tie.Need-loop-again Inv-loop μ-loop
 loop-again c = let a = c .before .before .before .before in
-    let l = c .low .ensures in
+    let l = c .lesser .ensures in
     let e = c .before .key-of .ensures in (
       search needs,
       (
@@ -58,7 +58,7 @@ loop-again c = let a = c .before .before .before .before in
     )
 
 returns : tie.Need-returns Inv-loop μ-loop
-returns c = record { low = λ k h. c .before .loop .inv .1 .1 .0 k (omega arith); met = c .before .loop .inv .1 .1 .1 }
+returns c = record { below = λ k h. c .before .loop .inv .1 .1 .0 k (omega arith); met = c .before .loop .inv .1 .1 .1 }
 
 pub row-key-spec : {M : Type 1} → statement M
 row-key-spec =
@@ -71,7 +71,7 @@ row-key-spec =
     shared-slice-read-key-of
     cast-key-of
     key-of-requires
-    low-requires
+    lesser-requires
     add-j
     loop-less
     loop-again

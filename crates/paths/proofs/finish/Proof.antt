@@ -1,4 +1,4 @@
-use Rattle.paths.proofs.Settle.{flips-free, settled-free, settled-r, left-out, flips-leaver, settled-leaver}
+use Rattle.paths.proofs.Settle.{flips-free, settled-free, settled-track, left-out, flips-leaver, settled-leaver}
 use native.Mathlib.Omega.{arith}
 use borrow.Author.Needs.{needs}
 use Rattle.paths.proofs.finish.Statement.{statement}
@@ -20,28 +20,28 @@ returns c = let s = c .before .before .before .before .before .before .before .b
 
 returns-2 : tie.Need-returns-2
 returns-2 c = let s = c .before .before .before .before .before .before .before .before .before in
-    settled-r _ _ _ _ _ _ _ _ _ _ _ _ (s .pre) (c .before .if1 .left) (c .if2 .taken)
+    settled-track _ _ _ _ _ _ _ _ _ _ _ _ (s .pre) (c .before .if1 .left) (c .if2 .taken)
 
-idx-requires : tie.Need-idx-requires
-idx-requires c κs = search needs
+index-requires : tie.Need-index-requires
+index-requires c κs = search needs
 
-mul-s : tie.Need-mul-s
-mul-s c = search needs
+mul-vacant : tie.Need-mul-vacant
+mul-vacant c = search needs
 
-slice-read-s : tie.Need-slice-read-s
-slice-read-s c = let s = c .before .before .before .before .before .before .before .before .before .before .before in
-    omega (arith, left-out _ _ _ _ _ _ _ _ _ _ _ _ (s .pre) (c .before .before .before .if1 .left) (c .before .before .if2 .left) .0, c .before .idx .ensures, s .pre .shape .pairing-long)
+slice-read-vacant : tie.Need-slice-read-vacant
+slice-read-vacant c = let s = c .before .before .before .before .before .before .before .before .before .before .before in
+    omega (arith, left-out _ _ _ _ _ _ _ _ _ _ _ _ (s .pre) (c .before .before .before .if1 .left) (c .before .before .if2 .left) .0, c .before .index .ensures, s .pre .shape .pairing-long)
 
 mul-pairing : tie.Need-mul-pairing
 mul-pairing c = search needs
 
 slice-write-pairing : tie.Need-slice-write-pairing
 slice-write-pairing c = let s = c .before .before .before .before .before .before .before .before .before .before .before in
-    omega (arith, left-out _ _ _ _ _ _ _ _ _ _ _ _ (s .pre) (c .before .before .before .if1 .left) (c .before .before .if2 .left) .0, c .before .idx .ensures, s .pre .shape .pairing-long)
+    omega (arith, left-out _ _ _ _ _ _ _ _ _ _ _ _ (s .pre) (c .before .before .before .if1 .left) (c .before .before .if2 .left) .0, c .before .index .ensures, s .pre .shape .pairing-long)
 
 flip-requires-2 : tie.Need-flip-requires-2
 flip-requires-2 c κs = let s = c .before .before .before .before .before .before .before .before .before .before .before .before .before in
-    flips-leaver _ _ _ _ _ _ _ _ _ _ _ _ (s .pre) (c .before .before .before .before .before .if1 .left) (c .before .before .before .before .if2 .left) _ (c .before .before .before .idx .ensures)
+    flips-leaver _ _ _ _ _ _ _ _ _ _ _ _ (s .pre) (c .before .before .before .before .before .if1 .left) (c .before .before .before .before .if2 .left) _ (c .before .before .before .index .ensures)
 
 same-length-3 : tie.Need-same-length-3
 same-length-3 c = search needs
@@ -51,7 +51,7 @@ same-length-4 c = search needs
 
 returns-3 : tie.Need-returns-3
 returns-3 c = let s = c .before .before .before .before .before .before .before .before .before .before .before .before .before .before .before .before .before .before in
-    settled-leaver _ _ _ _ _ _ _ _ _ _ _ _ (s .pre) (c .before .before .before .before .before .before .before .before .before .before .if1 .left) (c .before .before .before .before .before .before .before .before .before .if2 .left) _ (c .before .before .before .before .before .before .before .before .idx .ensures) _ _ (c .before .before .before .before .flip2 .ensures)
+    settled-leaver _ _ _ _ _ _ _ _ _ _ _ _ (s .pre) (c .before .before .before .before .before .before .before .before .before .before .if1 .left) (c .before .before .before .before .before .before .before .before .before .if2 .left) _ (c .before .before .before .before .before .before .before .before .index .ensures) _ _ (c .before .before .before .before .flip2 .ensures)
 
 pub finish-spec : {M : Type 1} → statement M
 finish-spec =
@@ -62,9 +62,9 @@ finish-spec =
     same-length-2
     returns
     returns-2
-    idx-requires
-    mul-s
-    slice-read-s
+    index-requires
+    mul-vacant
+    slice-read-vacant
     mul-pairing
     slice-write-pairing
     flip-requires-2

@@ -1,6 +1,6 @@
 use borrow.Author.Needs.{needs}
 use native.Mathlib.Omega.{arith}
-use Rattle.paths.proofs.Lift.{paid, u1-small, turned, inserted, reached}
+use Rattle.paths.proofs.Lift.{searched, paid, price-small, turned, inserted, reached}
 use Rattle.paths.proofs.insert.Statement.{statement}
 use Rattle.paths.proofs.insert.Tie as tie
 
@@ -11,31 +11,31 @@ raise-discounts-requires : tie.Need-raise-discounts-requires
 raise-discounts-requires c κs =
     let E = c .before .before .before .before .before .before .before .before .search .ensures in
     let g = c .before .before .before .before .before .before .before .before .before .before .before .before .before .before .before .before .before .before .before .before .before .before .before .before .pre .good in
-    (omega (arith, E .labels-long, g .shape .discounts-long), λ j h. omega (arith, E .price-in, g .numbers .discount-in j (omega (arith, g .shape .discounts-long))))
+    (searched E, (omega (arith, E .labels-long, g .shape .discounts-long), λ j h. omega (arith, E .price-in, g .numbers .discount-in j (omega (arith, g .shape .discounts-long)))))
 
 raise-prices-requires : tie.Need-raise-prices-requires
 raise-prices-requires c κs = paid (c .before .before .before .before .before .before .before .before .before .before .before .before .before .before .before .before .before .before .before .before .before .before .before .before .before .before .before .before .before .before .before .pre) (c .before .before .before .before .before .before .before .before .before .before .before .before .before .before .before .search .ensures)
 
-idx-requires : tie.Need-idx-requires
-idx-requires c κs = search needs
+index-requires : tie.Need-index-requires
+index-requires c κs = search needs
 
 mul-prices : tie.Need-mul-prices
-mul-prices c = omega (arith, c .idx .ensures, c .before .before .before .before .before .before .before .before .before .before .before .before .before .before .before .before .before .before .before .before .before .before .before .before .before .before .before .before .before .before .before .before .before .before .before .pre .track-in, c .before .before .before .before .before .before .before .before .before .before .before .before .before .before .before .before .before .before .before .before .before .before .before .before .before .before .before .before .before .before .before .before .before .before .before .pre .good .shape .tracks-few)
+mul-prices c = omega (arith, c .index .ensures, c .before .before .before .before .before .before .before .before .before .before .before .before .before .before .before .before .before .before .before .before .before .before .before .before .before .before .before .before .before .before .before .before .before .before .before .pre .track-in, c .before .before .before .before .before .before .before .before .before .before .before .before .before .before .before .before .before .before .before .before .before .before .before .before .before .before .before .before .before .before .before .before .before .before .before .pre .good .shape .tracks-few)
 
 slice-read-prices : tie.Need-slice-read-prices
-slice-read-prices c = omega (arith, c .before .idx .ensures, c .before .before .before .before .before .before .before .before .before .before .before .before .before .before .before .before .before .before .before .before .before .before .before .before .before .before .before .before .before .before .before .before .before .before .before .before .pre .track-in, c .before .before .before .before .raise-prices .ensures .prices-long)
+slice-read-prices c = omega (arith, c .before .index .ensures, c .before .before .before .before .before .before .before .before .before .before .before .before .before .before .before .before .before .before .before .before .before .before .before .before .before .before .before .before .before .before .before .before .before .before .before .before .pre .track-in, c .before .before .before .before .raise-prices .ensures .prices-long)
 
 add-prices : tie.Need-add-prices
-add-prices c = omega (arith, u1-small (c .before .before .before .before .before .before .before .before .before .before .before .before .before .before .before .before .before .before .before .before .before .before .before .before .before .before .before .before .before .before .before .before .before .before .before .before .pre) (c .before .before .before .before .before .before .before .before .before .before .before .before .before .before .before .before .before .before .before .before .search .ensures) (c .before .before .before .before .raise-prices .ensures) (c .before .before .before .before .before .before .before .before .before .before .before .raise-discounts .ensures) (c .before .idx .ensures))
+add-prices c = omega (arith, price-small (c .before .before .before .before .before .before .before .before .before .before .before .before .before .before .before .before .before .before .before .before .before .before .before .before .before .before .before .before .before .before .before .before .before .before .before .before .pre) (c .before .before .before .before .before .before .before .before .before .before .before .before .before .before .before .before .before .before .before .before .search .ensures) (c .before .before .before .before .raise-prices .ensures) (c .before .before .before .before .before .before .before .before .before .before .before .raise-discounts .ensures) (c .before .index .ensures))
 
 mul-prices-2 : tie.Need-mul-prices-2
-mul-prices-2 c = omega (arith, c .before .idx .ensures, c .before .before .before .before .before .before .before .before .before .before .before .before .before .before .before .before .before .before .before .before .before .before .before .before .before .before .before .before .before .before .before .before .before .before .before .before .pre .track-in, c .before .before .before .before .before .before .before .before .before .before .before .before .before .before .before .before .before .before .before .before .before .before .before .before .before .before .before .before .before .before .before .before .before .before .before .before .pre .good .shape .tracks-few)
+mul-prices-2 c = omega (arith, c .before .index .ensures, c .before .before .before .before .before .before .before .before .before .before .before .before .before .before .before .before .before .before .before .before .before .before .before .before .before .before .before .before .before .before .before .before .before .before .before .before .pre .track-in, c .before .before .before .before .before .before .before .before .before .before .before .before .before .before .before .before .before .before .before .before .before .before .before .before .before .before .before .before .before .before .before .before .before .before .before .before .pre .good .shape .tracks-few)
 
 slice-write-prices : tie.Need-slice-write-prices
-slice-write-prices c = omega (arith, c .before .idx .ensures, c .before .before .before .before .before .before .before .before .before .before .before .before .before .before .before .before .before .before .before .before .before .before .before .before .before .before .before .before .before .before .before .before .before .before .before .before .pre .track-in, c .before .before .before .before .raise-prices .ensures .prices-long)
+slice-write-prices c = omega (arith, c .before .index .ensures, c .before .before .before .before .before .before .before .before .before .before .before .before .before .before .before .before .before .before .before .before .before .before .before .before .before .before .before .before .before .before .before .before .before .before .before .before .pre .track-in, c .before .before .before .before .raise-prices .ensures .prices-long)
 
 finish-requires : tie.Need-finish-requires
-finish-requires c κs = turned (c .before .before .before .before .before .before .before .before .before .before .before .before .before .before .before .before .before .before .before .before .before .before .before .before .before .before .before .before .before .before .before .before .before .before .before .before .before .before .before .before .before .before .pre) (c .before .before .before .before .before .before .before .before .before .before .before .before .before .before .before .before .before .before .before .before .before .before .before .before .before .before .search .ensures) (c .before .before .before .before .before .before .before .before .before .before .raise-prices .ensures) (c .before .before .before .before .before .before .before .before .before .before .before .before .before .before .before .before .before .raise-discounts .ensures) (c .before .before .before .before .before .before .before .idx .ensures)
+finish-requires c κs = turned (c .before .before .before .before .before .before .before .before .before .before .before .before .before .before .before .before .before .before .before .before .before .before .before .before .before .before .before .before .before .before .before .before .before .before .before .before .before .before .before .before .before .before .pre) (c .before .before .before .before .before .before .before .before .before .before .before .before .before .before .before .before .before .before .before .before .before .before .before .before .before .before .search .ensures) (c .before .before .before .before .before .before .before .before .before .before .raise-prices .ensures) (c .before .before .before .before .before .before .before .before .before .before .before .before .before .before .before .before .before .raise-discounts .ensures) (c .before .before .before .before .before .before .before .index .ensures)
 
 same-length : tie.Need-same-length
 same-length c = search needs
@@ -62,11 +62,11 @@ returns : tie.Need-returns
 returns c =
     let R = c .before .before .before .before .before .before .before .before .before .before .before .before .before .before .before .before .before .before .before .before .before .before .before .before .before .before .before .before .before .before .before .before .before .before .before .before .before .before .before .before .before .before .before .before .before .before .before .pre in
     let E = c .before .before .before .before .before .before .before .before .before .before .before .before .before .before .before .before .before .before .before .before .before .before .before .before .before .before .before .before .before .before .before .search .ensures in
-    let RU = c .before .before .before .before .before .before .before .before .before .before .before .before .before .before .before .raise-prices .ensures in
-    let CU = c .before .before .before .before .before .before .before .before .before .before .before .before .before .before .before .before .before .before .before .before .before .before .raise-discounts .ensures in
-    let x = c .before .before .before .before .before .before .before .before .before .before .before .before .idx .ensures in
+    let PU = c .before .before .before .before .before .before .before .before .before .before .before .before .before .before .before .raise-prices .ensures in
+    let DU = c .before .before .before .before .before .before .before .before .before .before .before .before .before .before .before .before .before .before .before .before .before .before .raise-discounts .ensures in
+    let at-place = c .before .before .before .before .before .before .before .before .before .before .before .before .index .ensures in
     let S = c .before .before .before .before .finish .ensures in
-    (inserted R E RU CU x S, reached R E RU CU x S)
+    (inserted R E PU DU at-place S, reached R E PU DU at-place S)
 
 pub insert-spec : {M : Type 1} → statement M
 insert-spec =
@@ -75,7 +75,7 @@ insert-spec =
     search-requires
     raise-discounts-requires
     raise-prices-requires
-    idx-requires
+    index-requires
     mul-prices
     slice-read-prices
     add-prices

@@ -7,11 +7,11 @@ use Rattle.paths.proofs.Growth.{keys, few, next-in, own-j, turn, front-
 use Rattle.paths.proofs.pass_through.Statement.{statement}
 use Rattle.paths.proofs.pass_through.Tie as tie
 
-mul-d : tie.Need-mul-d
-mul-d c = search needs
+mul-label : tie.Need-mul-label
+mul-label c = search needs
 
-slice-read-d : tie.Need-slice-read-d
-slice-read-d c =
+slice-read-label : tie.Need-slice-read-label
+slice-read-label c =
     let p = c .before .before .before .before .before .before .before .before .before .pre in
     omega (arith, next-in (p .0) (p .1), p .0 .tree .labels-long)
 
@@ -26,57 +26,63 @@ slice-write-closings c =
     let p = c .before .before .before .before .before .before .before .before .before .before .pre in
     omega (arith, next-in (p .0) (p .1), p .0 .tree .closings-long)
 
-mul-o : tie.Need-mul-o
-mul-o c = search needs
+mul-passed : tie.Need-mul-passed
+mul-passed c = search needs
 
-shared-slice-read-o : tie.Need-shared-slice-read-o
-shared-slice-read-o c =
+shared-slice-read-passed : tie.Need-shared-slice-read-passed
+shared-slice-read-passed c =
     let p = c .before .before .before .before .before .before .before .before .before .before .before .pre in
     omega (arith, next-in (p .0) (p .1), p .0 .good .shape .owner-long)
 
-idx-requires : tie.Need-idx-requires
-idx-requires c κs = search needs
+index-requires : tie.Need-index-requires
+index-requires c κs = search needs
 
-mul-x : tie.Need-mul-x
-mul-x c =
+mul-cost : tie.Need-mul-cost
+mul-cost c =
     let p = c .before .before .before .before .before .before .before .before .before .before .before .before .pre in
-    omega (arith, c .idx .ensures, own-j (p .0) (p .1) .there, p .0 .good .shape .tracks-few)
+    omega (arith, c .index .ensures, own-j (p .0) (p .1) .there, p .0 .good .shape .tracks-few)
 
-shared-slice-read-x : tie.Need-shared-slice-read-x
-shared-slice-read-x c =
+shared-slice-read-cost : tie.Need-shared-slice-read-cost
+shared-slice-read-cost c =
     let p = c .before .before .before .before .before .before .before .before .before .before .before .before .before .pre in
-    omega (arith, c .before .idx .ensures, own-j (p .0) (p .1) .there)
+    omega (arith, c .before .index .ensures, own-j (p .0) (p .1) .there)
 
-sub-x : tie.Need-sub-x
-sub-x c =
+sub-cost : tie.Need-sub-cost
+sub-cost c =
     let p = c .before .before .before .before .before .before .before .before .before .before .before .before .before .pre in
-    omega (arith, ap (at (c .before .before .before .before .before .before .before .before .before .before .before .before .before .args .prices .now)) (c .before .idx .ensures), p .0 .good .numbers .price-in _ (own-j (p .0) (p .1) .there))
+    omega (arith, ap (at (c .before .before .before .before .before .before .before .before .before .before .before .before .before .args .prices .now)) (c .before .index .ensures), p .0 .good .numbers .price-in _ (own-j (p .0) (p .1) .there))
 
-add-x : tie.Need-add-x
-add-x c =
+add-cost : tie.Need-add-cost
+add-cost c =
     let p = c .before .before .before .before .before .before .before .before .before .before .before .before .before .pre in
     omega (arith, p .0 .tree .labels-in _ (next-in (p .0) (p .1)))
 
 choose-requires : tie.Need-choose-requires
-choose-requires c κs = search needs
+choose-requires c κs =
+    let S = c .before .before .before .before .before .before .before .before .before .before .before .before .before .pre .0 in
+    let t = c .before .before .before .before .before .before .before .before .before .before .before .before .before .pre .1 in
+    (omega (arith, S .tree .labels-in _ (next-in S t)), omega (arith, S .tree .leaving-in))
 
 lesser-requires : tie.Need-lesser-requires
-lesser-requires c κs = search needs
+lesser-requires c κs =
+    let S = c .before .before .before .before .before .before .before .before .before .before .before .before .before .before .pre .0 in
+    let t = c .before .before .before .before .before .before .before .before .before .before .before .before .before .before .pre .1 in
+    (omega (arith, S .tree .labels-in _ (next-in S t)), omega (arith, S .tree .leaving-in))
 
 open-from-requires : tie.Need-open-from-requires
 open-from-requires c κs =
     let S = c .before .before .before .before .before .before .before .before .before .before .before .before .before .before .before .before .pre .0 in
     simp length-set (omega (arith, S .behind .upto, S .tree .closings-long))
 
-scan-requires : tie.Need-scan-requires
-scan-requires c κs =
+offer-from-requires : tie.Need-offer-from-requires
+offer-from-requires c κs =
     let p = c .before .before .before .before .before .before .before .before .before .before .before .before .before .before .before .before .before .before .before .pre in
     fit-row (p .0) (p .1) (c .before .before .open-from .ensures)
 
 nearest-from-requires : tie.Need-nearest-from-requires
 nearest-from-requires c κs =
     let p = c .before .before .before .before .before .before .before .before .before .before .before .before .before .before .before .before .before .before .before .before .before .before .before .before .before .before .pre in
-    keys (p .0 .good) (turn (p .0) (p .1) (c .before .before .before .before .before .before .before .before .before .before .before .before .before .before .idx .ensures) (c .before .before .before .before .before .before .before .before .before .before .before .lesser .ensures) (c .before .before .before .before .before .before .before .before .before .before .before .before .choose .ensures) (c .before .before .before .before .before .before .scan .ensures)) (front-more (p .0) (p .1) (c .before .before .before .before .before .before .before .before .before .open-from .ensures))
+    keys (p .0 .good) (turn (p .0) (p .1) (c .before .before .before .before .before .before .before .before .before .before .before .before .before .before .index .ensures) (c .before .before .before .before .before .before .before .before .before .before .before .lesser .ensures) (c .before .before .before .before .before .before .before .before .before .before .before .before .choose .ensures) (c .before .before .before .before .before .before .offer-from .ensures)) (front-more (p .0) (p .1) (c .before .before .before .before .before .before .before .before .before .open-from .ensures))
 
 add-t22 : tie.Need-add-t22
 add-t22 c =
@@ -97,7 +103,7 @@ returns c =
     let p = c .before .before .before .before .before .before .before .before .before .before .before .before .before .before .before .before .before .before .before .before .before .before .before .before .before .before .before .before .pre in (
       record {
         good = p .0 .good;
-        tree = turn (p .0) (p .1) (c .before .before .before .before .before .before .before .before .before .before .before .before .before .before .before .before .idx .ensures) (c .before .before .before .before .before .before .before .before .before .before .before .before .before .lesser .ensures) (c .before .before .before .before .before .before .before .before .before .before .before .before .before .before .choose .ensures) (c .before .before .before .before .before .before .before .before .scan .ensures);
+        tree = turn (p .0) (p .1) (c .before .before .before .before .before .before .before .before .before .before .before .before .before .before .before .before .index .ensures) (c .before .before .before .before .before .before .before .before .before .before .before .before .before .lesser .ensures) (c .before .before .before .before .before .before .before .before .before .before .before .before .before .before .choose .ensures) (c .before .before .before .before .before .before .before .before .offer-from .ensures);
         behind = front-more (p .0) (p .1) (c .before .before .before .before .before .before .before .before .before .before .before .open-from .ensures);
         nearest = c .before .nearest-from .ensures;
       },
@@ -108,22 +114,22 @@ pub pass-through-spec : {M : Type 1} → statement M
 pass-through-spec =
     tie.close
     (tie.spec
-    mul-d
-    slice-read-d
+    mul-label
+    slice-read-label
     add-closings
     mul-closings
     slice-write-closings
-    mul-o
-    shared-slice-read-o
-    idx-requires
-    mul-x
-    shared-slice-read-x
-    sub-x
-    add-x
+    mul-passed
+    shared-slice-read-passed
+    index-requires
+    mul-cost
+    shared-slice-read-cost
+    sub-cost
+    add-cost
     choose-requires
     lesser-requires
     open-from-requires
-    scan-requires
+    offer-from-requires
     nearest-from-requires
     add-t22
     same-length

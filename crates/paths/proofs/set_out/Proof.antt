@@ -12,11 +12,11 @@ fill-requires c κs = search needs
 fill-requires-2 : tie.Need-fill-requires-2
 fill-requires-2 c κs = search needs
 
-scan-requires : tie.Need-scan-requires
-scan-requires c κs = fit-root (c .before .before .before .before .before .before .before .before .before .before .before .before .before .before .before .before .before .before .pre) (c .before .before .before .before .before .before .before .before .fill .ensures)
+offer-from-requires : tie.Need-offer-from-requires
+offer-from-requires c κs = fit-root (c .before .before .before .before .before .before .before .before .before .before .before .before .before .before .before .before .before .before .pre) (c .before .before .before .before .before .before .before .before .fill .ensures)
 
-idx-requires : tie.Need-idx-requires
-idx-requires c κs = search needs
+index-requires : tie.Need-index-requires
+index-requires c κs = search needs
 
 mul-leaving : tie.Need-mul-leaving
 mul-leaving c = search needs
@@ -27,12 +27,12 @@ shared-slice-read-leaving c = search needs
 sub-leaving : tie.Need-sub-leaving
 sub-leaving c =
     let R = c .before .before .before .before .before .before .before .before .before .before .before .before .before .before .before .before .before .before .before .before .before .before .before .before .before .pre in
-    omega (arith, ap (at (c .before .before .before .before .before .before .before .before .before .before .before .before .before .before .before .before .before .before .before .before .before .before .before .before .before .args .prices .now)) (c .before .idx .ensures), R .good .numbers .price-in _ (R .track-in))
+    omega (arith, ap (at (c .before .before .before .before .before .before .before .before .before .before .before .before .before .before .before .before .before .before .before .before .before .before .before .before .before .args .prices .now)) (c .before .index .ensures), R .good .numbers .price-in _ (R .track-in))
 
 nearest-from-requires : tie.Need-nearest-from-requires
 nearest-from-requires c κs =
     let R = c .before .before .before .before .before .before .before .before .before .before .before .before .before .before .before .before .before .before .before .before .before .before .before .before .before .before .before .pre in
-    keys (R .good) (plant R (c .before .before .before .idx .ensures) (c .before .before .before .before .before .before .before .before .before .before .before .before .before .before .before .before .before .fill .ensures) (c .before .before .before .before .before .before .before .before .before .before .before .before .before .fill2 .ensures) (c .before .before .before .before .before .before .before .before .scan .ensures)) (front-none _ _)
+    keys (R .good) (plant R (c .before .before .before .index .ensures) (c .before .before .before .before .before .before .before .before .before .before .before .before .before .before .before .before .before .fill .ensures) (c .before .before .before .before .before .before .before .before .before .before .before .before .before .fill2 .ensures) (c .before .before .before .before .before .before .before .before .offer-from .ensures)) (front-none _ _)
 
 same-length : tie.Need-same-length
 same-length c = search needs
@@ -48,7 +48,7 @@ returns c =
     let R = c .before .before .before .before .before .before .before .before .before .before .before .before .before .before .before .before .before .before .before .before .before .before .before .before .before .before .before .before .pre in
     record {
       good = R .good;
-      tree = plant R (c .before .before .before .before .idx .ensures) (c .before .before .before .before .before .before .before .before .before .before .before .before .before .before .before .before .before .before .fill .ensures) (c .before .before .before .before .before .before .before .before .before .before .before .before .before .before .fill2 .ensures) (c .before .before .before .before .before .before .before .before .before .scan .ensures);
+      tree = plant R (c .before .before .before .before .index .ensures) (c .before .before .before .before .before .before .before .before .before .before .before .before .before .before .before .before .before .before .fill .ensures) (c .before .before .before .before .before .before .before .before .before .before .before .before .before .before .fill2 .ensures) (c .before .before .before .before .before .before .before .before .before .offer-from .ensures);
       behind = front-none _ _;
       nearest = c .nearest-from .ensures;
     }
@@ -59,8 +59,8 @@ set-out-spec =
     (tie.spec
     fill-requires
     fill-requires-2
-    scan-requires
-    idx-requires
+    offer-from-requires
+    index-requires
     mul-leaving
     shared-slice-read-leaving
     sub-leaving

@@ -8,10 +8,10 @@ use Rattle.queue.proofs.first_turns.Statement.{statement}
 use Rattle.queue.proofs.first_turns.Tie as tie
 
 abbrev Inv-loop : tie.InvT-loop
-Inv-loop sheet reports pairing₀ owner₀ prices₀ discounts₀ labels₀ via₀ closings₀ k₀ pairing owner prices discounts labels via closings k = Good sheet reports (length prices₀) pairing owner prices discounts × (Rooms reports labels via closings × (k ≤ length prices₀))
+Inv-loop sheet reports pairing₀ owner₀ prices₀ discounts₀ labels₀ via₀ closings₀ round₀ pairing owner prices discounts labels via closings round = Good sheet reports (length prices₀) pairing owner prices discounts × (Rooms reports labels via closings × (round ≤ length prices₀))
 
 abbrev μ-loop : tie.MeasureT-loop
-μ-loop sheet reports pairing₀ owner₀ prices₀ discounts₀ labels₀ via₀ closings₀ k₀ pairing owner prices discounts labels via closings k = length prices₀ - k
+μ-loop sheet reports pairing₀ owner₀ prices₀ discounts₀ labels₀ via₀ closings₀ round₀ pairing owner prices discounts labels via closings round = length prices₀ - round
 
 loop-holds : tie.Need-loop-holds Inv-loop μ-loop
 loop-holds c = (c .before .before .before .before .before .before .before .before .pre .0, (c .before .before .before .before .before .before .before .before .pre .1, search needs))

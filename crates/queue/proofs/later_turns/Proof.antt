@@ -19,8 +19,8 @@ returns c = search needs
 fill-requires : tie.Need-fill-requires
 fill-requires c κs = search needs
 
-keep-all-requires : tie.Need-keep-all-requires
-keep-all-requires c κs =
+bound-by-pairs-requires : tie.Need-bound-by-pairs-requires
+bound-by-pairs-requires c κs =
     let p = c .before .before .before .before .before .before .before .before .before .before .before .before .before .before .before .before .before .before .before .before .before .before .pre in
     let fill = c .before .before .before .before .before .before .before .fill in
     (p .0, (fill .ensures .0 ∙ p .1 .1, λ k h. omega (arith, fill .ensures .1 k (omega (arith, fill .ensures .0)))))
@@ -28,7 +28,7 @@ keep-all-requires c κs =
 lifted-turns-requires : tie.Need-lifted-turns-requires
 lifted-turns-requires c κs =
     let p = c .before .before .before .before .before .before .before .before .before .before .before .before .before .before .before .before .before .before .before .before .before .before .before .before .before .before .before .before .before .before .before .before .before .pre in
-    (record { good = p .0; slacks = c .before .before .before .before .before .before .before .before .before .before .keep-all .ensures }, p .1 .0)
+    (record { good = p .0; slacks = c .before .before .before .before .before .before .before .before .before .before .bound-by-pairs .ensures }, p .1 .0)
 
 same-length-3 : tie.Need-same-length-3
 same-length-3 c = search needs
@@ -66,7 +66,7 @@ later-turns-spec =
     same-length-2
     returns
     fill-requires
-    keep-all-requires
+    bound-by-pairs-requires
     lifted-turns-requires
     same-length-3
     same-length-4

@@ -10,10 +10,10 @@ use Rattle.queue.proofs.lifted_turns.Statement.{statement}
 use Rattle.queue.proofs.lifted_turns.Tie as tie
 
 abbrev Inv-loop : tie.InvT-loop
-Inv-loop sheet reports pairing₀ owner₀ prices₀ discounts₀ labels₀ via₀ closings₀ slack₀ k₀ pairing owner prices discounts labels via closings slack k = Lifting sheet reports (length prices₀) pairing owner prices discounts slack × (Rooms reports labels via closings × (k ≤ length prices₀))
+Inv-loop sheet reports pairing₀ owner₀ prices₀ discounts₀ labels₀ via₀ closings₀ slack₀ round₀ pairing owner prices discounts labels via closings slack round = Lifting sheet reports (length prices₀) pairing owner prices discounts slack × (Rooms reports labels via closings × (round ≤ length prices₀))
 
 abbrev μ-loop : tie.MeasureT-loop
-μ-loop sheet reports pairing₀ owner₀ prices₀ discounts₀ labels₀ via₀ closings₀ slack₀ k₀ pairing owner prices discounts labels via closings slack k = length prices₀ - k
+μ-loop sheet reports pairing₀ owner₀ prices₀ discounts₀ labels₀ via₀ closings₀ slack₀ round₀ pairing owner prices discounts labels via closings slack round = length prices₀ - round
 
 loop-holds : tie.Need-loop-holds Inv-loop μ-loop
 loop-holds c = (c .before .before .before .before .before .before .before .before .before .pre .0, (c .before .before .before .before .before .before .before .before .before .pre .1, search needs))
@@ -58,8 +58,8 @@ lifted-turn-requires c κs =
     let L = c .before .before .before .before .before .before .before .before .before .before .before .before .before .loop .inv .0 in
     (lifting-at _ _ _ _ _ _ _ _ _ (sym (L .good .shape .prices-long)) L, (c .before .before .before .before .before .before .before .before .before .before .before .before .before .loop .inv .1 .0, c .before .before .before .before .before .before .before .before .before .next-turn .ensures (omega (arith, c .before .before .before .before .before .before .before .before .if1 .left))))
 
-add-k : tie.Need-add-k Inv-loop μ-loop
-add-k c = search needs
+add-round : tie.Need-add-round Inv-loop μ-loop
+add-round c = search needs
 
 loop-less : tie.Need-loop-less Inv-loop μ-loop
 loop-less c = search needs
@@ -115,7 +115,7 @@ lifted-turns-spec =
     returns
     sub-lifted-turn
     lifted-turn-requires
-    add-k
+    add-round
     loop-less
     loop-again
     same-length-9

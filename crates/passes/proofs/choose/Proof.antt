@@ -3,8 +3,8 @@ use native.Mathlib.Omega.{arith}
 use mathlib.Core.Path.{refl}
 use Prim.Native.Nat.{_<_, _≤_}
 use borrow.Author.Needs.{needs}
-use Rattle.passes.proofs.pick.Statement.{statement}
-use Rattle.passes.proofs.pick.Tie as tie
+use Rattle.passes.proofs.choose.Statement.{statement}
+use Rattle.passes.proofs.choose.Tie as tie
 
 cast-if1 : tie.Need-cast-if1
 cast-if1 c = search needs
@@ -20,5 +20,5 @@ returns-2 : tie.Need-returns-2
 returns-2 c = let t : c .before .args .b ≤ c .before .args .a = less-no _ _ (c .before .pre .0) (c .before .pre .1) (c .if1 .left) in
     (λ h. absurd (omega arith), λ h. refl)
 
-pub pick-spec : {M : Type 1} → statement M
-pick-spec = tie.close (tie.spec cast-if1 cast-if1-2 returns returns-2)
+pub choose-spec : {M : Type 1} → statement M
+choose-spec = tie.close (tie.spec cast-if1 cast-if1-2 returns returns-2)

@@ -1,10 +1,10 @@
 use borrow.Author.Needs.{needs}
-use Rattle.queue.proofs.Rise.{row-slack, kept-none, kept-row}
+use Rattle.queue.proofs.Rise.{row-slack, bounded-none, bounded-row}
 use Rattle.laws.proofs.Sums.{row-in}
 use lib.ListN.{length}
 use native.Mathlib.Omega.{arith}
-use Rattle.queue.proofs.keep_row.Statement.{statement}
-use Rattle.queue.proofs.keep_row.Tie as tie
+use Rattle.queue.proofs.bound_by_pair.Statement.{statement}
+use Rattle.queue.proofs.bound_by_pair.Tie as tie
 
 mul-if1 : tie.Need-mul-if1
 mul-if1 c =
@@ -17,7 +17,7 @@ shared-slice-read-if1 c = omega (arith, c .before .before .before .before .befor
 returns : tie.Need-returns
 returns c =
     let p = c .before .before .before .before .before .before .before .before .pre in
-    kept-none _ _ _ _ _ _ _ _ (p .0) (p .1 .0) (p .1 .1) (c .if1 .taken)
+    bounded-none _ _ _ _ _ _ _ _ (p .0) (p .1 .0) (p .1 .1) (c .if1 .taken)
 
 mul-price : tie.Need-mul-price
 mul-price c = search needs
@@ -25,38 +25,38 @@ mul-price c = search needs
 shared-slice-read-price : tie.Need-shared-slice-read-price
 shared-slice-read-price c = search needs
 
-mul-a : tie.Need-mul-a
-mul-a c =
+mul-row : tie.Need-mul-row
+mul-row c =
     let p = c .before .before .before .before .before .before .before .before .before .pre in
     let given = c .before .before .before .before .before .before .before .before .before .args in
     omega (arith, p .0 .shape .cells-long, row-in (given .track) (length (given .prices .now)) (given .reports) (length (given .sheet .now)) (omega (arith, p .1 .0)) (omega (arith, p .0 .shape .cells-long)))
 
-add-e : tie.Need-add-e
-add-e c =
+add-row-end : tie.Need-add-row-end
+add-row-end c =
     let p = c .before .before .before .before .before .before .before .before .before .pre in
     let given = c .before .before .before .before .before .before .before .before .before .args in
     omega (arith, p .0 .shape .cells-long, row-in (given .track) (length (given .prices .now)) (given .reports) (length (given .sheet .now)) (omega (arith, p .1 .0)) (omega (arith, p .0 .shape .cells-long)))
 
-mul-keep : tie.Need-mul-keep
-mul-keep c =
+mul-bound-slack : tie.Need-mul-bound-slack
+mul-bound-slack c =
     let p = c .before .before .before .before .before .before .before .before .before .pre in
     let given = c .before .before .before .before .before .before .before .before .before .args in
     omega (arith, p .0 .shape .cells-long, row-in (given .track) (length (given .prices .now)) (given .reports) (length (given .sheet .now)) (omega (arith, p .1 .0)) (omega (arith, p .0 .shape .cells-long)))
 
-sub-keep : tie.Need-sub-keep
-sub-keep c = search needs
+sub-bound-slack : tie.Need-sub-bound-slack
+sub-bound-slack c = search needs
 
-part-keep-start : tie.Need-part-keep-start
-part-keep-start c = search needs
+part-bound-slack-start : tie.Need-part-bound-slack-start
+part-bound-slack-start c = search needs
 
-part-keep-end : tie.Need-part-keep-end
-part-keep-end c =
+part-bound-slack-end : tie.Need-part-bound-slack-end
+part-bound-slack-end c =
     let p = c .before .before .before .before .before .before .before .before .before .pre in
     let given = c .before .before .before .before .before .before .before .before .before .args in
     omega (arith, p .0 .shape .cells-long, row-in (given .track) (length (given .prices .now)) (given .reports) (length (given .sheet .now)) (omega (arith, p .1 .0)) (omega (arith, p .0 .shape .cells-long)))
 
-keep-requires : tie.Need-keep-requires
-keep-requires c κs =
+bound-slack-requires : tie.Need-bound-slack-requires
+bound-slack-requires c κs =
     let p = c .before .before .before .before .before .before .before .before .before .before .before .pre in
     row-slack _ _ _ _ _ _ _ _ (p .0) (p .1 .0) (p .1 .1)
 
@@ -66,10 +66,10 @@ same-length c = search needs
 returns-2 : tie.Need-returns-2
 returns-2 c =
     let p = c .before .before .before .before .before .before .before .before .before .before .before .before .before .before .pre in
-    kept-row _ _ _ _ _ _ _ _ (p .0) (p .1 .0) (p .1 .1) _ (c .before .before .keep .ensures)
+    bounded-row _ _ _ _ _ _ _ _ (p .0) (p .1 .0) (p .1 .1) _ (c .before .before .bound-slack .ensures)
 
-pub keep-row-spec : {M : Type 1} → statement M
-keep-row-spec =
+pub bound-by-pair-spec : {M : Type 1} → statement M
+bound-by-pair-spec =
     tie.close
     (tie.spec
     mul-if1
@@ -77,12 +77,12 @@ keep-row-spec =
     returns
     mul-price
     shared-slice-read-price
-    mul-a
-    add-e
-    mul-keep
-    sub-keep
-    part-keep-start
-    part-keep-end
-    keep-requires
+    mul-row
+    add-row-end
+    mul-bound-slack
+    sub-bound-slack
+    part-bound-slack-start
+    part-bound-slack-end
+    bound-slack-requires
     same-length
     returns-2)

@@ -2,30 +2,30 @@ use borrow.Author.Needs.{needs}
 use native.Mathlib.Omega.{arith}
 use lib.ListN.{length}
 use Rattle.laws.proofs.Sums.{row-in}
-use Rattle.paths.proofs.Rows.{fair, scanned}
-use Rattle.paths.proofs.scan.Statement.{statement}
-use Rattle.paths.proofs.scan.Tie as tie
+use Rattle.paths.proofs.Rows.{fair, offered}
+use Rattle.paths.proofs.offer_from.Statement.{statement}
+use Rattle.paths.proofs.offer_from.Tie as tie
 
-idx-requires : tie.Need-idx-requires
-idx-requires c κs = search needs
+index-requires : tie.Need-index-requires
+index-requires c κs = search needs
 
-mul-a : tie.Need-mul-a
-mul-a c =
+mul-row : tie.Need-mul-row
+mul-row c =
     let p = c .before .before .before .before .before .before .pre in
     let given = c .before .before .before .before .before .before .args in
-    omega (arith, p .cells-long, row-in (c .idx .result) (length (given .prices .now)) (given .reports) (length (given .sheet .now)) (omega (arith, p .track-in, c .idx .ensures)) (omega (arith, p .cells-long)))
+    omega (arith, p .cells-long, row-in (c .index .result) (length (given .prices .now)) (given .reports) (length (given .sheet .now)) (omega (arith, p .track-in, c .index .ensures)) (omega (arith, p .cells-long)))
 
-add-e : tie.Need-add-e
-add-e c =
+add-row-end : tie.Need-add-row-end
+add-row-end c =
     let p = c .before .before .before .before .before .before .pre in
     let given = c .before .before .before .before .before .before .args in
-    omega (arith, p .cells-long, row-in (c .idx .result) (length (given .prices .now)) (given .reports) (length (given .sheet .now)) (omega (arith, p .track-in, c .idx .ensures)) (omega (arith, p .cells-long)))
+    omega (arith, p .cells-long, row-in (c .index .result) (length (given .prices .now)) (given .reports) (length (given .sheet .now)) (omega (arith, p .track-in, c .index .ensures)) (omega (arith, p .cells-long)))
 
-add-s : tie.Need-add-s
-add-s c =
+add-row-front : tie.Need-add-row-front
+add-row-front c =
     let p = c .before .before .before .before .before .before .pre in
     let given = c .before .before .before .before .before .before .args in
-    omega (arith, p .first-in, row-in (c .idx .result) (length (given .prices .now)) (given .reports) (length (given .sheet .now)) (omega (arith, p .track-in, c .idx .ensures)) (omega (arith, p .cells-long)))
+    omega (arith, p .front-in, row-in (c .index .result) (length (given .prices .now)) (given .reports) (length (given .sheet .now)) (omega (arith, p .track-in, c .index .ensures)) (omega (arith, p .cells-long)))
 
 mul-price : tie.Need-mul-price
 mul-price c = search needs
@@ -37,19 +37,19 @@ mul-relax : tie.Need-mul-relax
 mul-relax c =
     let p = c .before .before .before .before .before .before .before .pre in
     let given = c .before .before .before .before .before .before .before .args in
-    omega (arith, p .first-in, row-in (c .before .idx .result) (length (given .prices .now)) (given .reports) (length (given .sheet .now)) (omega (arith, p .track-in, c .before .idx .ensures)) (omega (arith, p .cells-long)))
+    omega (arith, p .front-in, row-in (c .before .index .result) (length (given .prices .now)) (given .reports) (length (given .sheet .now)) (omega (arith, p .track-in, c .before .index .ensures)) (omega (arith, p .cells-long)))
 
 sub-relax : tie.Need-sub-relax
-sub-relax c = omega (arith, c .before .before .before .before .before .before .before .pre .first-in)
+sub-relax c = omega (arith, c .before .before .before .before .before .before .before .pre .front-in)
 
 part-relax-start : tie.Need-part-relax-start
-part-relax-start c = omega (arith, c .before .before .before .before .before .before .before .pre .first-in)
+part-relax-start c = omega (arith, c .before .before .before .before .before .before .before .pre .front-in)
 
 part-relax-end : tie.Need-part-relax-end
 part-relax-end c =
     let given = c .before .before .before .before .before .before .before .args in
     let p = c .before .before .before .before .before .before .before .pre in
-    omega (arith, row-in (c .before .idx .result) (length (given .prices .now)) (given .reports) (length (given .sheet .now)) (omega (arith, p .track-in, c .before .idx .ensures)) (omega (arith, p .cells-long)))
+    omega (arith, row-in (c .before .index .result) (length (given .prices .now)) (given .reports) (length (given .sheet .now)) (omega (arith, p .track-in, c .before .index .ensures)) (omega (arith, p .cells-long)))
 
 mul-relax-2 : tie.Need-mul-relax-2
 mul-relax-2 c = search needs
@@ -88,7 +88,7 @@ part-relax-end-4 : tie.Need-part-relax-end-4
 part-relax-end-4 c = search needs
 
 relax-requires : tie.Need-relax-requires
-relax-requires c κs = fair _ _ _ _ _ _ _ _ _ (c .before .before .before .before .before .before .before .before .before .before .before .pre) _ (c .before .before .before .before .before .idx .ensures)
+relax-requires c κs = fair _ _ _ _ _ _ _ _ _ (c .before .before .before .before .before .before .before .before .before .before .before .pre) _ (c .before .before .before .before .before .index .ensures)
 
 same-length : tie.Need-same-length
 same-length c = search needs
@@ -97,16 +97,16 @@ same-length-2 : tie.Need-same-length-2
 same-length-2 c = search needs
 
 returns : tie.Need-returns
-returns c = scanned _ _ _ _ _ _ _ _ _ (c .before .before .before .before .before .before .before .before .before .before .before .before .before .before .before .before .pre) _ (c .before .before .before .before .before .before .before .before .before .before .idx .ensures) _ _ (c .before .before .before .before .relax .ensures)
+returns c = offered _ _ _ _ _ _ _ _ _ (c .before .before .before .before .before .before .before .before .before .before .before .before .before .before .before .before .pre) _ (c .before .before .before .before .before .before .before .before .before .before .index .ensures) _ _ (c .before .before .before .before .relax .ensures)
 
-pub scan-spec : {M : Type 1} → statement M
-scan-spec =
+pub offer-from-spec : {M : Type 1} → statement M
+offer-from-spec =
     tie.close
     (tie.spec
-    idx-requires
-    mul-a
-    add-e
-    add-s
+    index-requires
+    mul-row
+    add-row-end
+    add-row-front
     mul-price
     shared-slice-read-price
     mul-relax

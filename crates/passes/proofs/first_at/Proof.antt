@@ -5,32 +5,32 @@ use mathlib.Core.Path.{_≡_}
 use Prim.Native.Nat.{ℕ, _+_, _≤_, _<_, _-_}
 use borrow.Author.Needs.{needs}
 use native.Mathlib.Omega.{arith}
-use Rattle.passes.proofs.find.Statement.{statement}
-use Rattle.passes.proofs.find.Tie as tie
+use Rattle.passes.proofs.first_at.Statement.{statement}
+use Rattle.passes.proofs.first_at.Tie as tie
 
 abbrev Inv-loop : tie.InvT-loop
-Inv-loop labels closings v j₀ j = (j ≤ length labels) × ((k : ℕ) → k < j → at labels k + at closings k ≡ v → ⊥)
+Inv-loop labels closings label j₀ j = (j ≤ length labels) × ((k : ℕ) → k < j → at labels k + at closings k ≡ label → ⊥)
 
 abbrev μ-loop : tie.MeasureT-loop
-μ-loop labels closings v j₀ j = length labels - j
+μ-loop labels closings label j₀ j = length labels - j
 
 loop-holds : tie.Need-loop-holds Inv-loop μ-loop
 loop-holds c = search needs
 
-mul-x : tie.Need-mul-x Inv-loop μ-loop
-mul-x c = search needs
+mul-here : tie.Need-mul-here Inv-loop μ-loop
+mul-here c = search needs
 
-shared-slice-read-x : tie.Need-shared-slice-read-x Inv-loop μ-loop
-shared-slice-read-x c = search needs
+shared-slice-read-here : tie.Need-shared-slice-read-here Inv-loop μ-loop
+shared-slice-read-here c = search needs
 
-mul-x-2 : tie.Need-mul-x-2 Inv-loop μ-loop
-mul-x-2 c = search needs
+mul-here-2 : tie.Need-mul-here-2 Inv-loop μ-loop
+mul-here-2 c = search needs
 
-shared-slice-read-x-2 : tie.Need-shared-slice-read-x-2 Inv-loop μ-loop
-shared-slice-read-x-2 c = search needs
+shared-slice-read-here-2 : tie.Need-shared-slice-read-here-2 Inv-loop μ-loop
+shared-slice-read-here-2 c = search needs
 
-add-x : tie.Need-add-x Inv-loop μ-loop
-add-x c = omega (arith, c .before .before .before .before .pre .small (c .before .before .before .loop .j) (c .before .before .loop-test .taken))
+add-here : tie.Need-add-here Inv-loop μ-loop
+add-here c = omega (arith, c .before .before .before .before .pre .small (c .before .before .before .loop .j) (c .before .before .loop-test .taken))
 
 returns : tie.Need-returns Inv-loop μ-loop
 returns c = record { upto = search needs; here = λ h. c .if1 .taken; before = c .before .before .before .before .loop .inv .1 }
@@ -47,18 +47,18 @@ loop-again c = (search needs, below-more _ _ (c .before .before .before .before 
 returns-2 : tie.Need-returns-2 Inv-loop μ-loop
 returns-2 c = record { upto = search needs; here = λ h. absurd (omega arith); before = c .before .loop .inv .1 }
 
-pub find-spec : {M : Type 1} → statement M
-find-spec =
+pub first-at-spec : {M : Type 1} → statement M
+first-at-spec =
     tie.close
     (tie.spec
     Inv-loop
     μ-loop
     loop-holds
-    mul-x
-    shared-slice-read-x
-    mul-x-2
-    shared-slice-read-x-2
-    add-x
+    mul-here
+    shared-slice-read-here
+    mul-here-2
+    shared-slice-read-here-2
+    add-here
     returns
     add-j
     loop-less

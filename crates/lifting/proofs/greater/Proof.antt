@@ -2,8 +2,8 @@ use borrow.Author.Needs.{needs}
 use Rattle.passes.proofs.Keys.{less-yes, less-no}
 use native.Mathlib.Omega.{arith}
 use Prim.Native.Nat.{_<_, _≤_}
-use Rattle.lifting.proofs.high.Statement.{statement}
-use Rattle.lifting.proofs.high.Tie as tie
+use Rattle.lifting.proofs.greater.Statement.{statement}
+use Rattle.lifting.proofs.greater.Tie as tie
 
 cast-if1 : tie.Need-cast-if1
 cast-if1 c = search needs
@@ -21,5 +21,5 @@ returns-2 c =
     let t : c .before .args .b ≤ c .before .args .a = less-no _ _ (c .before .pre .0) (c .before .pre .1) (c .if1 .left) in
     (omega arith, (omega arith, (λ h. omega arith, λ h. omega arith)))
 
-pub high-spec : {M : Type 1} → statement M
-high-spec = tie.close (tie.spec cast-if1 cast-if1-2 returns returns-2)
+pub greater-spec : {M : Type 1} → statement M
+greater-spec = tie.close (tie.spec cast-if1 cast-if1-2 returns returns-2)

@@ -7,8 +7,8 @@ use Prim.Native.Nat.{ℕ, _≤_, _<_, _-_}
 use native.Mathlib.Omega.{arith}
 use borrow.Author.Needs.{needs}
 use Rattle.passes.specs.Cells.{far}
-use Rattle.lifting.proofs.keep.Statement.{statement}
-use Rattle.lifting.proofs.keep.Tie as tie
+use Rattle.lifting.proofs.bound_slack.Statement.{statement}
+use Rattle.lifting.proofs.bound_slack.Tie as tie
 
 abbrev Inv-loop : tie.InvT-loop
 Inv-loop cells price slack₀ j₀ slack j = (j ≤ length slack₀) × ((length slack ≡ length slack₀) × (((k : ℕ) → k < j → (at slack k ≤ at slack₀ k) × (at cells k < far → at slack k ≤ at cells k - price)) × ((k : ℕ) → j ≤ k → at slack k ≡ at slack₀ k)))
@@ -31,14 +31,14 @@ gap-requires c κs =
     let g : c .before .before .loop .j < length (c .before .before .before .before .before .args .slack .now) = omega (arith, c .before .before .loop .inv .1 .0, c .before .loop-test .taken) in
     (p .cells-good (c .before .before .loop .j) g, p .top)
 
-mul-low : tie.Need-mul-low Inv-loop μ-loop
-mul-low c = search needs
+mul-lesser : tie.Need-mul-lesser Inv-loop μ-loop
+mul-lesser c = search needs
 
-slice-read-low : tie.Need-slice-read-low Inv-loop μ-loop
-slice-read-low c = search needs
+slice-read-lesser : tie.Need-slice-read-lesser Inv-loop μ-loop
+slice-read-lesser c = search needs
 
-low-requires : tie.Need-low-requires Inv-loop μ-loop
-low-requires c κs =
+lesser-requires : tie.Need-lesser-requires Inv-loop μ-loop
+lesser-requires c κs =
     let l = c .before .before .before .before .loop in
     let g : l .j < length (c .before .before .before .before .before .before .before .args .slack .now) = omega (arith, l .inv .1 .0, c .before .before .before .loop-test .taken) in
     (c .before .gap .ensures .0, omega (arith, c .before .before .before .before .before .before .before .pre .small (l .j) g, l .inv .1 .1 .1 (l .j) (omega arith)))
@@ -61,7 +61,7 @@ loop-again c =
     let a = c .before .before .before .before .before .loop in
     let v = a .inv in
     let t = c .before .before .before .before .loop-test .taken in
-    let l = c .low .ensures in
+    let l = c .lesser .ensures in
     let e = c .before .before .gap .ensures in (
       omega (arith, v .1 .0),
       (
@@ -82,8 +82,8 @@ returns c =
     let v = c .before .loop .inv in
     record { slack-long = v .1 .0; less = λ k h. v .1 .1 .0 k (omega (arith, v .1 .0)) .0; room = λ k h. v .1 .1 .0 k (omega (arith, v .1 .0)) .1 }
 
-pub keep-spec : {M : Type 1} → statement M
-keep-spec =
+pub bound-slack-spec : {M : Type 1} → statement M
+bound-slack-spec =
     tie.close
     (tie.spec
     Inv-loop
@@ -92,9 +92,9 @@ keep-spec =
     mul-gap
     shared-slice-read-gap
     gap-requires
-    mul-low
-    slice-read-low
-    low-requires
+    mul-lesser
+    slice-read-lesser
+    lesser-requires
     mul-slack
     slice-write-slack
     add-j
