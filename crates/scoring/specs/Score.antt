@@ -1,5 +1,5 @@
 -- The score of a pair: seven octal digits (01, 'A pair'; 002, radar-only).
-use Prim.Native.Nat.{ℕ, _+_, _*_, _≤_, _<_}
+use Prim.Native.Nat.{ℕ, _+_, _*_, _^_, _≤_, _<_}
 use mathlib.Core.Bool.{Bool, not, cond, _&&_}
 use lib.Dec.{leb, ltb, eqb}
 use lib.IntN.{natAbs}
@@ -46,8 +46,14 @@ unfoldable pub dopplerOf : Track → Report → ℕ
 dopplerOf t p = oneUnless (dopplerAgrees t p)
 
 -- over 7 updates 0, 4 to 7 gives 2, 3 or fewer 4
+abbrev pub growingAge : ℕ
+growingAge = 2
+
+abbrev pub newAge : ℕ
+newAge = 4
+
 unfoldable pub updatesAge : ℕ → ℕ
-updatesAge updates = cond (ltb updates growingFrom) 4 (cond (ltb updates matureFrom) 2 0)
+updatesAge updates = cond (ltb updates growingFrom) newAge (cond (ltb updates matureFrom) growingAge 0)
 
 -- plus 1 if misses is not 0
 unfoldable pub ageOf : Track → ℕ
@@ -80,6 +86,10 @@ ageWorth = 8
 
 abbrev pub digitsWorth : (zone position doppler age trust : ℕ) → ℕ
 digitsWorth zone position doppler age trust = zone * zoneWorth + position * positionWorth + doppler * dopplerWorth + age * ageWorth + trust
+
+-- seven octal digits say less than this
+abbrev pub digitsEnd : ℕ
+digitsEnd = 8 ^ 7
 
 -- the worth of an admissible pair
 unfoldable pub worthOf : Track → Report → Site → ℕ

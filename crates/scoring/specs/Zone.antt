@@ -23,9 +23,15 @@ withinSigmas n t p g = leb (rangeOff t p) (n * g .«range_sigma») && leb (azimu
 abbrev pub innerSigmas : ℕ
 innerSigmas = 4
 
--- 8 + 4 x misses
+-- 8 + 4 x misses: those of a track with no misses, and what each miss adds
+abbrev pub steadySigmas : ℕ
+steadySigmas = 8
+
+abbrev pub missSigmas : ℕ
+missSigmas = 4
+
 abbrev pub outerSigmas : Track → ℕ
-outerSigmas t = 8 + 4 * t .misses
+outerSigmas t = steadySigmas + missSigmas * t .misses
 
 -- how far 600 knots reach across in a scan, in azimuth units at range 1
 abbrev pub crossReach : ℕ
