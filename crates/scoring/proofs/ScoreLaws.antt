@@ -14,15 +14,15 @@ use Rattle.scoring.specs.Score.{pairPosition, oneUnless, dopplerAgrees, 
 use Rattle.scoring.proofs.PositionLaws.{position-most}
 
 -- a pair in the inner zone is inner, even where a track of one update does not reach so far
-pub inner-first : (t : Track) (p : Report) (g : Site) → withinSigmas innerSigmas t p g ≡ true → zoneOf t p g ≡ innerDigit
+pub inner-first : (t : Track) (p : Report) (site : Site) → withinSigmas innerSigmas t p site ≡ true → zoneOf t p site ≡ innerDigit
 unfolding zoneOf
-inner-first t p g e = rw e
+inner-first t p site e = rw e
 
 -- ---- how large each digit is
 
-pub zone-most : (t : Track) (p : Report) (g : Site) → zoneOf t p g ≤ outerDigit
+pub zone-most : (t : Track) (p : Report) (site : Site) → zoneOf t p site ≤ outerDigit
 unfolding zoneOf
-zone-most t p g = go (withinSigmas innerSigmas t p g) (withinOuter t p g)
+zone-most t p site = go (withinSigmas innerSigmas t p site) (withinOuter t p site)
   where
     go : (a b : Bool) → cond a innerDigit (cond b outerDigit 0) ≤ outerDigit
     go true b = omega arith
@@ -63,19 +63,19 @@ quality-most t p = omega (arith, one-unless-most (sureQuality (p .quality)), one
 
 -- ---- the score
 
-pub worth-below : (t : Track) (p : Report) (g : Site) → worthOf t p g < digitsEnd
+pub worth-below : (t : Track) (p : Report) (site : Site) → worthOf t p site < digitsEnd
 unfolding worthOf pairPosition dopplerOf ageOf trustOf
-worth-below t p g =
-    omega (arith, zone-most t p g, position-most (rangeOff t p) (azimuthOff t p) (g .«range_sigma») (g .«azimuth_sigma»), one-unless-most (dopplerAgrees t p), updates-age-most (t .updates), one-unless-most (eqb (t .misses) 0), confidence-most t p, quality-most t p)
+worth-below t p site =
+    omega (arith, zone-most t p site, position-most (rangeOff t p) (azimuthOff t p) (site .«range_sigma») (site .«azimuth_sigma»), one-unless-most (dopplerAgrees t p), updates-age-most (t .updates), one-unless-most (eqb (t .misses) 0), confidence-most t p, quality-most t p)
 
 -- every score is below 2,097,152
-pub score-below : (t : Track) (p : Report) (g : Site) (x : ℕ) → scoreOf t p g ≡ Score x → x < digitsEnd
+pub score-below : (t : Track) (p : Report) (site : Site) (x : ℕ) → scoreOf t p site ≡ Score x → x < digitsEnd
 unfolding scoreOf
-score-below t p g x e = go (eqb (zoneOf t p g) 0) e
+score-below t p site x e = go (eqb (zoneOf t p site) 0) e
   where
-    go : (b : Bool) → cond b NotAdmissible (Score (worthOf t p g)) ≡ Score x → x < digitsEnd
+    go : (b : Bool) → cond b NotAdmissible (Score (worthOf t p site)) ≡ Score x → x < digitsEnd
     go true e = absurd (never e)
       where
         never : NotAdmissible ≡ Score x → ⊥
         never e = let z : _≡_ {A = ℕ} 0 1 = cc in omega arith
-    go false e = let same : worthOf t p g ≡ x = cc in omega (arith, worth-below t p g)
+    go false e = let same : worthOf t p site ≡ x = cc in omega (arith, worth-below t p site)

@@ -24,7 +24,7 @@ pub record Scorable (t : Track) (p : Report) : Type 0 where
 
 -- S of a pair
 unfoldable pub pairPosition : Track → Report → Site → ℕ
-pairPosition t p g = positionOf (rangeOff t p) (azimuthOff t p) (g .«range_sigma») (g .«azimuth_sigma»)
+pairPosition t p site = positionOf (rangeOff t p) (azimuthOff t p) (site .«range_sigma») (site .«azimuth_sigma»)
 
 -- 0 if so, else 1
 abbrev pub oneUnless : Bool → ℕ
@@ -93,7 +93,7 @@ digitsEnd = 8 ^ 7
 
 -- the worth of an admissible pair
 unfoldable pub worthOf : Track → Report → Site → ℕ
-worthOf t p g = digitsWorth (zoneOf t p g) (pairPosition t p g) (dopplerOf t p) (ageOf t) (trustOf t p)
+worthOf t p site = digitsWorth (zoneOf t p site) (pairPosition t p site) (dopplerOf t p) (ageOf t) (trustOf t p)
 
 unfoldable pub scoreOf : Track → Report → Site → Scored
-scoreOf t p g = cond (eqb (zoneOf t p g) 0) NotAdmissible (Score (worthOf t p g))
+scoreOf t p site = cond (eqb (zoneOf t p site) 0) NotAdmissible (Score (worthOf t p site))

@@ -74,13 +74,13 @@ fn by_sigma(x: u64, sigma: u8) -> u64
 }
 
 // Range first: it is the cheaper of the two.
-fn within_sigmas(n: u32, t: Track, p: Report, g: Site) -> bool
-    ensures { λ r. ⌜ r ≡ withinSigmas n t p g ⌝ }
+fn within_sigmas(n: u32, t: Track, p: Report, site: Site) -> bool
+    ensures { λ r. ⌜ r ≡ withinSigmas n t p site ⌝ }
 {
-    if by_sigma(n as u64, g.range_sigma) < range_off(t, p) {
+    if by_sigma(n as u64, site.range_sigma) < range_off(t, p) {
         return false;
     }
-    azimuth_off(t, p) <= by_sigma(n as u64, g.azimuth_sigma)
+    azimuth_off(t, p) <= by_sigma(n as u64, site.azimuth_sigma)
 }
 
 fn outer_sigmas(t: Track) -> u32
@@ -111,23 +111,23 @@ fn within_reach(t: Track, p: Report) -> bool
     azimuth_off(t, p) <= azimuth_reach(t.range)
 }
 
-fn within_outer(t: Track, p: Report, g: Site) -> bool
-    ensures { λ r. ⌜ r ≡ withinOuter t p g ⌝ }
+fn within_outer(t: Track, p: Report, site: Site) -> bool
+    ensures { λ r. ⌜ r ≡ withinOuter t p site ⌝ }
 {
     if records::UPDATES_AT_START < t.updates {
-        return within_sigmas(outer_sigmas(t), t, p, g);
+        return within_sigmas(outer_sigmas(t), t, p, site);
     }
     within_reach(t, p)
 }
 
 // The zone's digit, 0 for a pair that is not admissible.
-fn zone(t: Track, p: Report, g: Site) -> u32
-    ensures { λ r. ⌜ r ≡ zoneOf t p g ⌝ }
+fn zone(t: Track, p: Report, site: Site) -> u32
+    ensures { λ r. ⌜ r ≡ zoneOf t p site ⌝ }
 {
-    if within_sigmas(INNER_SIGMAS, t, p, g) {
+    if within_sigmas(INNER_SIGMAS, t, p, site) {
         return INNER_DIGIT;
     }
-    if within_outer(t, p, g) {
+    if within_outer(t, p, site) {
         return OUTER_DIGIT;
     }
     0
@@ -254,19 +254,19 @@ fn worth(zone: u32, position: u32, doppler: u32, age: u32, trust: u32) -> u32
 }
 
 // The position number, which costs most, is computed for admissible pairs only.
-pub fn score(t: Track, p: Report, g: Site) -> Scored
+pub fn score(t: Track, p: Report, site: Site) -> Scored
     requires { ⌜ Scorable t p ⌝ }
-    ensures { λ r. ⌜ r ≡ scoreOf t p g ⌝ }
+    ensures { λ r. ⌜ r ≡ scoreOf t p site ⌝ }
 {
-    let zone = zone(t, p, g);
+    let zone = zone(t, p, site);
     if zone == 0 {
         return Scored::NotAdmissible;
     }
     let position = position_number(
         range_off(t, p),
         azimuth_off(t, p),
-        g.range_sigma,
-        g.azimuth_sigma,
+        site.range_sigma,
+        site.azimuth_sigma,
     );
     let doppler = one_unless(doppler_agrees(t, p));
     Scored::Score(worth(zone, position, doppler, age(t), trust(t, p)))
