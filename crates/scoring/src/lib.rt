@@ -163,7 +163,8 @@ pub fn position_number(dr: u64, da: u64, range_sigma: u8, azimuth_sigma: u8) -> 
     ensures { λ r. ⌜ r ≡ positionOf dr da «range_sigma» «azimuth_sigma» ⌝ }
 {
     let sigmas = square(by_sigma(range_sigma as u64, azimuth_sigma));
-    let off = EIGHTHS_SQUARED * (square(by_sigma(dr, azimuth_sigma)) + square(by_sigma(da, range_sigma)));
+    let off = EIGHTHS_SQUARED
+        * (square(by_sigma(dr, azimuth_sigma)) + square(by_sigma(da, range_sigma)));
     let mut low: u64 = 0;
     let mut width: u64 = POSITION_MOST + 1;
     while 1 < width {
