@@ -74,8 +74,8 @@ tellable-still {h} {P} {was} {table} e w = record {
   few-slots = rw e (w .few-slots);
   few-reports = w .few-reports;
   sector-in = w .sector-in;
-  entry-each = w .entry-each;
-  due-lies = λ i l. rw e (w .due-lies i l);
+  number-each = w .number-each;
+  due-lies = λ rank l. rw e (w .due-lies rank l);
 }
 
 -- the three answers of a report

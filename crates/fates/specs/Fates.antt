@@ -51,7 +51,7 @@ isFree slot = eqb (at slot markAt) free
 unfoldable pub freeSlot : List (List ℕ) → ℕ
 freeSlot table = firstIndex isFree table
 
--- the place of the due track that has report j in the pairing P, or P's length
+-- the rank of the due track that has report j in the pairing P, or P's length
 unfoldable pub ownerOf : List ℕ → ℕ → ℕ
 ownerOf P j = firstIndex (eqb j) P
 
@@ -117,10 +117,10 @@ pub record Tellable (h : Handed) (P : List ℕ) (table : List (List ℕ)) : Type
   pub few-slots : length table ≤ mostSlots
   pub few-reports : length (h .batch) ≤ mostBatch
   pub sector-in : h .sector < sectors
-  pub entry-each : length P ≡ length (h .due)
-  pub due-lies : (i : ℕ) → i < length (h .due) → getD (h .due) i 0 < length table
+  pub number-each : length P ≡ length (h .due)
+  pub due-lies : (rank : ℕ) → rank < length (h .due) → getD (h .due) rank 0 < length table
 
--- a place for each report in the three answer lists
+-- room for each report in the three answer lists
 pub record Roomy (reports : ℕ) (fates slots shown : List ℕ) : Type 0 where
   pub for-fates : reports ≤ length fates
   pub for-slots : reports ≤ length slots

@@ -14,13 +14,13 @@ use Rattle.laws.proofs.Tests.{and-left}
 use Rattle.records.specs.declared.Track.{Track}
 use Rattle.records.specs.declared.Report.{Report}
 use Rattle.records.specs.Fields.{free, held, isWeak, allowance}
-use Rattle.records.specs.Bytes.{markAt, waitAt, trackOf, bytesOf, reportOf, slotDue}
-use Rattle.settling.specs.declared.Unpaired.the-variants.{Coasts, Dropped}
+use Rattle.records.specs.Bytes.{freed, markAt, waitAt, trackOf, bytesOf, reportOf, slotDue}
+use Rattle.settling.specs.declared.Missed.the-variants.{Coasts, Dropped}
 use Rattle.settling.specs.Settle.{updatedOf, coastedOf, withoutPair, startedOf, agedOf}
 use Rattle.matching.specs.Pairing.{none}
 use Rattle.intake.specs.Refusals.{Input, dueSlots}
 use Rattle.scoresheet.specs.Cells.{tracksOf}
-use Rattle.walk.specs.Table.{freed, pairedSlot, unpairedBytes, missedSlot, agedSlot, settledSlot, settledTable, droppedOne, missedAt, missedSum, droppedCount}
+use Rattle.walk.specs.Table.{pairedSlot, missedBytes, missedSlot, agedSlot, settledSlot, settledTable, droppedOne, missedAt, missedSum, droppedCount}
 use Rattle.walk.proofs.Settled.{settled-length, rankOf, due-at-rank, settled-at}
 use Rattle.fates.specs.declared.Told.{Told}
 use Rattle.fates.specs.Fates.{started, weak, full, noSlot, Handed, isFree, freeSlot, ownerOf, slotOf, toldPaired, toldUnpaired, afterUnpaired, toldOf, afterReport, reportNumbers, startedTable, fatesOf, countOf}
@@ -70,12 +70,12 @@ missed-mark : (t : Track) (s : ℕ) → coastedOf t s .mark ≡ held
 unfolding coastedOf
 missed-mark t s = refl
 
-kept-one : (t : Track) → t .mark ≡ held → one (unpairedBytes (Coasts t)) + droppedOne (Coasts t) ≡ 1
-unfolding unpairedBytes droppedOne
+kept-one : (t : Track) → t .mark ≡ held → one (missedBytes (Coasts t)) + droppedOne (Coasts t) ≡ 1
+unfolding missedBytes droppedOne
 kept-one t e = rw (held-bytes t e)
 
-dropped-one : one (unpairedBytes Dropped) + droppedOne Dropped ≡ 1
-unfolding unpairedBytes droppedOne
+dropped-one : one (missedBytes Dropped) + droppedOne Dropped ≡ 1
+unfolding missedBytes droppedOne
 dropped-one = rw freed-not-held
 
 -- a due track that is left out is held or dropped
@@ -83,7 +83,7 @@ missed-held : (s : ℕ) (slot : List ℕ) → one (missedSlot s slot) + droppedO
 unfolding missedSlot withoutPair
 missed-held s slot = go (ltb (allowance (trackOf slot .updates)) (trackOf slot .misses + 1))
   where
-    go : (b : Bool) → one (unpairedBytes (cond b Dropped (Coasts (coastedOf (trackOf slot) s)))) + droppedOne (cond b Dropped (Coasts (coastedOf (trackOf slot) s))) ≡ 1
+    go : (b : Bool) → one (missedBytes (cond b Dropped (Coasts (coastedOf (trackOf slot) s)))) + droppedOne (cond b Dropped (Coasts (coastedOf (trackOf slot) s))) ≡ 1
     go true = dropped-one
     go false = kept-one (coastedOf (trackOf slot) s) (missed-mark (trackOf slot) s)
 
