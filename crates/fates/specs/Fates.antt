@@ -67,12 +67,17 @@ slotOf h P j = getD (h .due) (ownerOf P j) 0
 unfoldable pub toldPaired : ℕ → List (List ℕ) → Told
 toldPaired k table = record { fate = paired; slot = k; shown = shownMark (getD table k []) }
 
+-- a report that has no track
+abbrev pub noTrack : ℕ → Told
+noTrack fate = record { fate = fate; slot = noSlot; shown = 0 }
+
 -- an unpaired report: weak, or with no free slot full; another starts a track in the lowest free slot
+abbrev pub toldBy : (weak? full? : Bool) → List (List ℕ) → Told
+toldBy weak? full? table =
+    cond weak? (noTrack weak) (cond full? (noTrack full) (record { fate = started; slot = freeSlot table; shown = 0 }))
+
 unfoldable pub toldUnpaired : Report → List (List ℕ) → Told
-toldUnpaired p table =
-    cond (isWeak p) (record { fate = weak; slot = noSlot; shown = 0 })
-    (cond (leb (length table) (freeSlot table)) (record { fate = full; slot = noSlot; shown = 0 })
-    (record { fate = started; slot = freeSlot table; shown = 0 }))
+toldUnpaired p table = toldBy (isWeak p) (leb (length table) (freeSlot table)) table
 
 -- and the table after it; s is the sector served
 unfoldable pub afterUnpaired : Report → ℕ → List (List ℕ) → List (List ℕ)

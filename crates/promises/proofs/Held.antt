@@ -23,7 +23,7 @@ use Rattle.scoresheet.specs.Cells.{tracksOf}
 use Rattle.walk.specs.Table.{pairedSlot, missedBytes, missedSlot, agedSlot, settledSlot, settledTable, droppedOne, missedAt, missedSum, droppedCount}
 use Rattle.walk.proofs.Settled.{settled-length, rankOf, due-at-rank, settled-at}
 use Rattle.fates.specs.declared.Told.{Told}
-use Rattle.fates.specs.Fates.{started, weak, full, noSlot, Handed, isFree, freeSlot, ownerOf, slotOf, toldPaired, toldUnpaired, afterUnpaired, toldOf, afterReport, reportNumbers, startedTable, fatesOf, countOf}
+use Rattle.fates.specs.Fates.{started, Handed, isFree, freeSlot, ownerOf, slotOf, toldPaired, toldBy, toldUnpaired, afterUnpaired, toldOf, afterReport, reportNumbers, startedTable, fatesOf, countOf}
 use Rattle.fates.proofs.Telling.{fateOut}
 use Rattle.sector.specs.declared.Counts.{Counts}
 use Rattle.sector.specs.Serve.{Lent, Chosen, Choice, reportsIn, fatesIn, tally, countsOf, afterOf, ServedWith}
@@ -126,16 +126,11 @@ start-adds p s table l =
     count-set isHeld table (firstIndex isFree table) (bytesOf (startedOf p s)) [] l (free-not-held _ (first-found isFree table [] l)) (held-bytes (startedOf p s) refl)
 
 -- a report without a pair holds one slot more exactly where its fate is started
-abbrev toldBy : List (List ℕ) → Bool → Bool → Told
-toldBy table w f =
-    cond w (record { fate = weak; slot = noSlot; shown = 0 })
-    (cond f (record { fate = full; slot = noSlot; shown = 0 }) (record { fate = started; slot = freeSlot table; shown = 0 }))
-
 unpaired-adds : (p : Report) (s : ℕ) (table : List (List ℕ)) → heldCount (afterUnpaired p s table) ≡ heldCount table + cond (eqb started (toldUnpaired p table .fate)) 1 0
 unfolding afterUnpaired toldUnpaired
 unpaired-adds p s table = go (isWeak p) (leb (length table) (freeSlot table)) refl
   where
-    go : (w f : Bool) → leb (length table) (freeSlot table) ≡ f → heldCount (cond (eqb (toldBy table w f .fate) started) (set table (freeSlot table) (bytesOf (startedOf p s))) table) ≡ heldCount table + cond (eqb started (toldBy table w f .fate)) 1 0
+    go : (w f : Bool) → leb (length table) (freeSlot table) ≡ f → heldCount (cond (eqb (toldBy w f table .fate) started) (set table (freeSlot table) (bytesOf (startedOf p s))) table) ≡ heldCount table + cond (eqb started (toldBy w f table .fate)) 1 0
     go true f e = omega arith
     go false true e = omega arith
     go false false e = start-adds p s table (leb-false _ _ e)

@@ -25,8 +25,7 @@ use Rattle.scoresheet.proofs.Due.{due-lies, due-is-due}
 use Rattle.laws.proofs.Places.{rising}
 use Rattle.walk.specs.Table.{pairedSlot, settledSlot, settledTable}
 use Rattle.walk.proofs.Settled.{rankOf, due-at-rank, settled-at}
-use Rattle.fates.specs.declared.Told.{Told}
-use Rattle.fates.specs.Fates.{paired, started, weak, full, noSlot, shownFrom, Handed, isFree, freeSlot, ownerOf, shownMark, slotOf, toldPaired, toldUnpaired, toldOf, afterReport, reportNumbers, fatesOf, slotsOf}
+use Rattle.fates.specs.Fates.{paired, shownFrom, Handed, isFree, freeSlot, ownerOf, shownMark, slotOf, toldPaired, toldBy, toldUnpaired, toldOf, afterReport, reportNumbers, fatesOf, slotsOf}
 use Rattle.laws.proofs.Rounds.{told-at}
 use Rattle.fates.proofs.Telling.{fateOut, slotOut}
 use Rattle.fates.proofs.Starts.{tableAt}
@@ -86,7 +85,7 @@ told-unpaired : (h : Handed) (P : List ℕ) (j : ℕ) (table : List (List ℕ)) 
 unfolding toldOf toldUnpaired
 told-unpaired h P j table l = rw (le-ltb (ownerOf P j) (length P) l) (go (isWeak (reportOf (getD (h .batch) j []))) (leb (length table) (freeSlot table)))
   where
-    go : (b c : Bool) → (cond {A = Told} b (record { fate = weak; slot = noSlot; shown = 0 }) (cond c (record { fate = full; slot = noSlot; shown = 0 }) (record { fate = started; slot = freeSlot table; shown = 0 }))) .fate ≡ paired → ⊥
+    go : (b c : Bool) → toldBy b c table .fate ≡ paired → ⊥
     go true c e = omega arith
     go false true e = omega arith
     go false false e = omega arith
