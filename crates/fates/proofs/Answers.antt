@@ -13,7 +13,7 @@ use Rattle.laws.proofs.Listed.{length-listed}
 use Rattle.laws.proofs.Fold.{length-outs}
 use Rattle.records.specs.Fields.{isWeak}
 use Rattle.records.specs.Bytes.{reportOf}
-use Rattle.fates.specs.Fates.{paired, started, weak, full, noSlot, Handed, isFree, freeSlot, ownerOf, shownMark, slotOf, toldPaired, toldUnpaired, toldOf, afterReport, reportNumbers, fatesOf, slotsOf, shownOf, countOf}
+use Rattle.fates.specs.Fates.{paired, started, weak, full, Handed, isFree, freeSlot, ownerOf, shownMark, slotOf, toldPaired, toldBy, toldUnpaired, toldOf, afterReport, reportNumbers, fatesOf, slotsOf, shownOf, countOf}
 use Rattle.laws.proofs.Rounds.{numbers, told-at, count-from}
 use Rattle.fates.proofs.Telling.{fateOut, slotOut, shownOut}
 use Rattle.fates.proofs.Starts.{tableAt, held-at}
@@ -53,7 +53,7 @@ told-fate : (h : Handed) (P : List ℕ) (j : ℕ) (table : List (List ℕ)) → 
 unfolding toldOf toldPaired toldUnpaired
 told-fate h P j table = go (ltb (ownerOf P j) (length P)) (isWeak (reportOf (getD (h .batch) j []))) (leb (length table) (freeSlot table))
   where
-    go : (a b c : Bool) → Fate ((cond a (toldPaired (slotOf h P j) table) (cond b (record { fate = weak; slot = noSlot; shown = 0 }) (cond c (record { fate = full; slot = noSlot; shown = 0 }) (record { fate = started; slot = freeSlot table; shown = 0 })))) .fate)
+    go : (a b c : Bool) → Fate ((cond a (toldPaired (slotOf h P j) table) (toldBy b c table)) .fate)
     go true b c = is-paired
     go false true c = is-weak
     go false false true = is-full
@@ -104,7 +104,7 @@ told-shown : (h : Handed) (P : List ℕ) (j : ℕ) (table : List (List ℕ)) →
 unfolding toldOf toldPaired toldUnpaired
 told-shown h P j table = go (ltb (ownerOf P j) (length P)) (isWeak (reportOf (getD (h .batch) j []))) (leb (length table) (freeSlot table))
   where
-    go : (a b c : Bool) → (cond a (toldPaired (slotOf h P j) table) (cond b (record { fate = weak; slot = noSlot; shown = 0 }) (cond c (record { fate = full; slot = noSlot; shown = 0 }) (record { fate = started; slot = freeSlot table; shown = 0 })))) .shown ≡ cond a (shownMark (getD table (slotOf h P j) [])) 0
+    go : (a b c : Bool) → (cond a (toldPaired (slotOf h P j) table) (toldBy b c table)) .shown ≡ cond a (shownMark (getD table (slotOf h P j) [])) 0
     go true b c = refl
     go false true c = refl
     go false false true = refl

@@ -11,7 +11,7 @@ use Rattle.records.specs.declared.Report.{Report}
 use Rattle.records.specs.Fields.{isWeak}
 use Rattle.records.specs.Bytes.{bytesOf, reportOf}
 use Rattle.settling.specs.Settle.{startedOf}
-use Rattle.fates.specs.Fates.{started, weak, full, noSlot, freeSlot, isFree, ownerOf, toldUnpaired, afterUnpaired, toldOf, afterReport, Handed, Tellable}
+use Rattle.fates.specs.Fates.{started, weak, full, freeSlot, isFree, ownerOf, noTrack, toldUnpaired, afterUnpaired, toldOf, afterReport, Handed, Tellable}
 use Rattle.laws.proofs.Rounds.{first-later}
 
 -- the fate of a report without a pair: the first that applies
@@ -20,7 +20,7 @@ unpairedFate weak? full? = cond weak? weak (cond full? full started)
 
 -- an unpaired report that starts no track, and one that does
 pub record Untracked (p : Report) (s fate : ℕ) (table : List (List ℕ)) : Type 0 where
-  pub told : record { fate = fate; slot = noSlot; shown = 0 } ≡ toldUnpaired p table
+  pub told : noTrack fate ≡ toldUnpaired p table
   pub after : table ≡ afterUnpaired p s table
 
 pub record Tracked (p : Report) (s free fate : ℕ) (table : List (List ℕ)) : Type 0 where
@@ -74,8 +74,8 @@ tellable-still {h} {P} {was} {table} e w = record {
   few-slots = rw e (w .few-slots);
   few-reports = w .few-reports;
   sector-in = w .sector-in;
-  entry-each = w .entry-each;
-  due-lies = λ i l. rw e (w .due-lies i l);
+  number-each = w .number-each;
+  due-lies = λ rank l. rw e (w .due-lies rank l);
 }
 
 -- the three answers of a report

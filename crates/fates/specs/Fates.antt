@@ -51,7 +51,7 @@ isFree slot = eqb (at slot markAt) free
 unfoldable pub freeSlot : List (List ℕ) → ℕ
 freeSlot table = firstIndex isFree table
 
--- the place of the due track that has report j in the pairing P, or P's length
+-- the rank of the due track that has report j in the pairing P, or P's length
 unfoldable pub ownerOf : List ℕ → ℕ → ℕ
 ownerOf P j = firstIndex (eqb j) P
 
@@ -67,12 +67,17 @@ slotOf h P j = getD (h .due) (ownerOf P j) 0
 unfoldable pub toldPaired : ℕ → List (List ℕ) → Told
 toldPaired k table = record { fate = paired; slot = k; shown = shownMark (getD table k []) }
 
+-- a report that has no track
+abbrev pub noTrack : ℕ → Told
+noTrack fate = record { fate = fate; slot = noSlot; shown = 0 }
+
 -- an unpaired report: weak, or with no free slot full; another starts a track in the lowest free slot
+abbrev pub toldBy : (weak? full? : Bool) → List (List ℕ) → Told
+toldBy weak? full? table =
+    cond weak? (noTrack weak) (cond full? (noTrack full) (record { fate = started; slot = freeSlot table; shown = 0 }))
+
 unfoldable pub toldUnpaired : Report → List (List ℕ) → Told
-toldUnpaired p table =
-    cond (isWeak p) (record { fate = weak; slot = noSlot; shown = 0 })
-    (cond (leb (length table) (freeSlot table)) (record { fate = full; slot = noSlot; shown = 0 })
-    (record { fate = started; slot = freeSlot table; shown = 0 }))
+toldUnpaired p table = toldBy (isWeak p) (leb (length table) (freeSlot table)) table
 
 -- and the table after it; s is the sector served
 unfoldable pub afterUnpaired : Report → ℕ → List (List ℕ) → List (List ℕ)
@@ -117,10 +122,10 @@ pub record Tellable (h : Handed) (P : List ℕ) (table : List (List ℕ)) : Type
   pub few-slots : length table ≤ mostSlots
   pub few-reports : length (h .batch) ≤ mostBatch
   pub sector-in : h .sector < sectors
-  pub entry-each : length P ≡ length (h .due)
-  pub due-lies : (i : ℕ) → i < length (h .due) → getD (h .due) i 0 < length table
+  pub number-each : length P ≡ length (h .due)
+  pub due-lies : (rank : ℕ) → rank < length (h .due) → getD (h .due) rank 0 < length table
 
--- a place for each report in the three answer lists
+-- room for each report in the three answer lists
 pub record Roomy (reports : ℕ) (fates slots shown : List ℕ) : Type 0 where
   pub for-fates : reports ≤ length fates
   pub for-slots : reports ≤ length slots

@@ -20,7 +20,7 @@ pub const WEAK: u8 = 3;
 pub const FULL: u8 = 4;
 
 // The slot of a report that has none.
-pub const NO_SLOT: u16 = 65_535;
+const NO_SLOT: u16 = 65_535;
 
 const SHOWN_FROM: u8 = 3;
 
@@ -31,18 +31,18 @@ pub struct Told {
     pub shown: u8,
 }
 
-// The place of the due track that has report j, or the number of due tracks.
+// The rank of the due track that has report j, or the number of due tracks.
 fn owner_of(pairing: &[u32], j: u32) -> usize
     ensures { λ r. ⌜ r ≡ ownerOf (now (pairing .entry)) j ⌝ }
 {
-    let mut i: usize = 0;
-    while i < pairing.len() {
-        if pairing[i] == j {
-            return i;
+    let mut rank: usize = 0;
+    while rank < pairing.len() {
+        if pairing[rank] == j {
+            return rank;
         }
-        i += 1;
+        rank += 1;
     }
-    i
+    rank
 }
 
 // The lowest free slot, or the table's length: none below `from` is free.
@@ -50,15 +50,15 @@ fn free_from(table: &[[u8; records::SLOT_BYTES]], from: usize) -> usize
     requires { ⌜ from ≤ freeSlot (now table) ⌝ }
     ensures { λ r. ⌜ r ≡ freeSlot (now (table .entry)) ⌝ }
 {
-    let mut i = from;
-    while i < table.len() {
-        let slot = table[i];
+    let mut k = from;
+    while k < table.len() {
+        let slot = table[k];
         if slot[records::MARK_AT] == records::FREE {
-            return i;
+            return k;
         }
-        i += 1;
+        k += 1;
     }
-    i
+    k
 }
 
 fn shown_mark(slot: [u8; records::SLOT_BYTES]) -> u8
@@ -122,9 +122,9 @@ fn tell_report(
     ensures { λ r. ⌜ r ≡ toldOf (handed (now (due .entry)) sector (now (batch .entry))) (now (pairing .entry)) j (now (table .entry)) ⌝ }
     ensures { λ _. ⌜ now (table .exit) ≡ afterReport (handed (now (due .entry)) sector (now (batch .entry))) (now (pairing .entry)) j (now (table .entry)) ⌝ }
 {
-    let i = owner_of(pairing, j as u32);
-    if i < pairing.len() {
-        let k = due[i];
+    let rank = owner_of(pairing, j as u32);
+    if rank < pairing.len() {
+        let k = due[rank];
         let slot = table[k];
         return Told {
             fate: PAIRED,

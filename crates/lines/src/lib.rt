@@ -2,13 +2,13 @@
 ghost use mathlib.Core.Path.{_≡_};
 ghost use Prim.Native.Nat.{_+_, _*_, _≤_};
 ghost use lib.ListN.{length};
-ghost use Rattle.lines.specs.Text.{mostDigits, numeral, separatorOf, lineOf, Put};
+ghost use Rattle.lines.specs.Text.{mostDigits, mostNumber, numeral, separatorOf, lineOf, Put};
 
 // The digits that io spells a number into.
 const SPELL_ROOM: usize = 20;
 
 // The most digits of a u32, and the most bytes of a number in a line: its digits and what stands behind them.
-pub const MOST_DIGITS: usize = 10;
+const MOST_DIGITS: usize = 10;
 
 pub const MOST_NUMBER: usize = MOST_DIGITS + 1;
 
@@ -27,7 +27,7 @@ pub fn put_text(out: &mut [u8], place: usize, text: &[u8]) -> usize
     at
 }
 
-pub fn put_number(out: &mut [u8], place: usize, n: u32) -> usize
+fn put_number(out: &mut [u8], place: usize, n: u32) -> usize
     requires { ⌜ place + mostDigits ≤ length (now out) ⌝ }
     ensures { λ r. ⌜ Put (now (out .entry)) place (numeral n) (now (out .exit)) r ⌝ }
 {
@@ -45,9 +45,9 @@ fn separator(left: usize) -> u8
 
 // Puts a line of numbers.
 pub fn put_line(out: &mut [u8], place: usize, numbers: &[u32]) -> usize
-    requires { ⌜ place + length (now numbers) * (mostDigits + 1) ≤ length (now out) ⌝ }
+    requires { ⌜ place + length (now numbers) * mostNumber ≤ length (now out) ⌝ }
     ensures { λ r. ⌜ Put (now (out .entry)) place (lineOf (now (numbers .entry))) (now (out .exit)) r ⌝ }
-    ensures { λ r. ⌜ r ≤ place + length (now (numbers .entry)) * (mostDigits + 1) ⌝ }
+    ensures { λ r. ⌜ r ≤ place + length (now (numbers .entry)) * mostNumber ⌝ }
 {
     let mut at = place;
     let mut i: usize = 0;

@@ -62,7 +62,6 @@ difference-leads a b ha hb =
 pub difference-only : (a b : ℕ) (z : ℤ) → b < turn → Sixteen z → azimuthMoved b z ≡ a → z ≡ azimuthDifference a b
 unfolding azimuthDifference
 difference-only a b z hb h e =
-    let r : ℕ = remainder z turn in
     let l : remainder z turn < turn = remainder-lies z turn (omega arith) in
     let m : (b + remainder z turn) % turn ≡ a = moved-form b z ∙ e in
     let k : remainder z turn ≡ (a + turn - b) % turn = omega arith in

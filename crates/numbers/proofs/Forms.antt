@@ -10,6 +10,7 @@ use lib.Dec.{ltb}
 use lib.IntN.{ℤ, pos, negsuc, negℤ, natAbs, _-ℤ_}
 use lib.Signed.{nonNeg}
 use Rattle.laws.proofs.Sizes.{minus-less, minus-more}
+use Rattle.numbers.specs.Scales.{turn, halfTurn}
 use Rattle.numbers.specs.Whole.{signedOf, rounded, heldWithin, heldFromZero, remainder}
 use Rattle.numbers.specs.Azimuth.{signed16, azimuthMoved}
 
@@ -63,16 +64,16 @@ difference-form a b = go (ltb a b) refl
     go true e = let l : a < b = ltb-true a b e in let m : max a b - min a b ≡ b - a = omega arith in rw m (sym (minus-less a b l))
     go false e = let l : b ≤ a = ltb-false a b e in let m : max a b - min a b ≡ a - b = omega arith in rw m (sym (minus-more a b l))
 
-pub signed16-low : (n : ℕ) → n < 32768 → signedOf false n ≡ signed16 n
+pub signed16-low : (n : ℕ) → n < halfTurn → signedOf false n ≡ signed16 n
 unfolding signed16
-signed16-low n h = rw (lt-ltb n 32768 h)
+signed16-low n h = rw (lt-ltb n halfTurn h)
 
-pub signed16-high : (n : ℕ) → 32768 ≤ n → n < 65536 → signedOf true (65536 - n) ≡ signed16 n
+pub signed16-high : (n : ℕ) → halfTurn ≤ n → n < turn → signedOf true (turn - n) ≡ signed16 n
 unfolding signed16
-signed16-high n h k = rw (le-ltb n 32768 h) (sym (minus-less n 65536 k))
+signed16-high n h k = rw (le-ltb n halfTurn h) (sym (minus-less n turn k))
 
 -- what wraps back to a is the difference that the rule names
-pub wrapped : (n a b : ℕ) → n < 65536 → a < 65536 → b < 65536 → (n + b) % 65536 ≡ a → n ≡ (a + 65536 - b) % 65536
+pub wrapped : (n a b : ℕ) → n < turn → a < turn → b < turn → (n + b) % turn ≡ a → n ≡ (a + turn - b) % turn
 wrapped n a b hn ha hb e = omega arith
 
 remainder-neg : (k m : ℕ) → 0 < k → remainder (negℤ (pos k)) m ≡ m - suc ((k - 1) % m)
@@ -88,15 +89,15 @@ unfolding remainder
 remainder-pos k m = refl
 
 -- a less k goes round to what a and the rest of a turn go round to
-pub round-back : (a k n : ℕ) → (a + n) % 65536 ≡ (a + (65536 - suc (k % 65536))) % 65536 → (a + n) % 65536 ≡ remainder (pos a -ℤ pos (suc k)) 65536
+pub round-back : (a k n : ℕ) → (a + n) % turn ≡ (a + (turn - suc (k % turn))) % turn → (a + n) % turn ≡ remainder (pos a -ℤ pos (suc k)) turn
 round-back a k n e = go (decLt a (suc k))
   where
-    go : Dec (a < suc k) → (a + n) % 65536 ≡ remainder (pos a -ℤ pos (suc k)) 65536
-    go (yes h) = rw (minus-less a (suc k) h, remainder-neg (suc k - a) 65536 (omega arith)) (omega arith)
+    go : Dec (a < suc k) → (a + n) % turn ≡ remainder (pos a -ℤ pos (suc k)) turn
+    go (yes h) = rw (minus-less a (suc k) h, remainder-neg (suc k - a) turn (omega arith)) (omega arith)
     go (no h) = rw (minus-more a (suc k) (omega arith), remainder-pos) (omega arith)
 
 -- an azimuth moved: the bits of the move are added, and the sum goes round
-pub moved-form : (a : ℕ) (z : ℤ) → (a + remainder z 65536) % 65536 ≡ azimuthMoved a z
+pub moved-form : (a : ℕ) (z : ℤ) → (a + remainder z turn) % turn ≡ azimuthMoved a z
 unfolding azimuthMoved remainder
 moved-form a (pos n) = omega arith
-moved-form a (negsuc n) = round-back a n (65536 - suc (n % 65536)) refl
+moved-form a (negsuc n) = round-back a n (turn - suc (n % turn)) refl

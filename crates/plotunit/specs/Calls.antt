@@ -35,6 +35,7 @@ unfoldable pub servedCounts : Served → List ℕ → List ℕ
 servedCounts (served.Refused k) before = before
 servedCounts (served.Done counts) before = countList counts
 
+-- what C is told of the call, and all that was lent after it
 pub record ServesForC (i : Input) (l l′ : Lent) (counts counts′ : List ℕ) (number : ℕ) : Type 0 where
   pub answer : Served
   pub promised : ServesSector i l l′ answer
@@ -52,6 +53,7 @@ unfoldable pub sheetedSize : Sheeted → List ℕ → List ℕ
 sheetedSize (sheeted.Refused k) before = before
 sheetedSize (sheeted.Sheet tracks reports) before = tracks ∷ reports ∷ []
 
+-- what C is told of the call, and the sheet and the size after it
 pub record ScoresForC (i : Input) (sheet sheet′ size size′ : List ℕ) (number : ℕ) : Type 0 where
   pub numbered : number ≡ sheetedNumber (sheetedOf i sheet)
   pub filled : sheet′ ≡ sheetAfter i sheet

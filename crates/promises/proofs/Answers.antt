@@ -11,7 +11,7 @@ use Rattle.records.specs.Bytes.{slotDue}
 use Rattle.laws.specs.Lists.{at}
 use Rattle.matching.specs.Pairing.{none, HasReport, ValidPairing}
 use Rattle.intake.specs.Refusals.{Input}
-use Rattle.scoresheet.specs.Cells.{tracksOf, reportsOf, sectorSheet}
+use Rattle.scoresheet.specs.Cells.{tracksOf, reportsOf, dueSlot, sectorSheet}
 use Rattle.scoresheet.proofs.Due.{due-lies, due-is-due}
 use Rattle.walk.specs.Table.{slotPrice, settledTable, slotPrices}
 use Rattle.walk.proofs.Settled.{rankOf, prices-length, price-at}
@@ -19,7 +19,7 @@ use Rattle.fates.specs.Fates.{slotsOf, shownOf}
 use Rattle.fates.proofs.Answers.{length-fates, length-slots, length-shown}
 use Rattle.sector.specs.declared.Counts.{Counts}
 use Rattle.sector.specs.Serve.{Lent, Chosen, Choice, reportsIn, fatesIn, afterOf, ServedWith}
-use Rattle.promises.specs.Words.{slotOfDue, TrackServed, SeenServed, AnswersTold}
+use Rattle.promises.specs.Words.{TrackServed, SeenServed, AnswersTold}
 use Rattle.promises.proofs.Pairings.{valid-pairing, every-due-track-is-paired}
 use Rattle.promises.proofs.Reports.{rank-is, pairing-is-read-off, shown-exactly-when}
 use Rattle.promises.proofs.Slots.{paired-slot-after}
@@ -49,24 +49,24 @@ answers-are-told i l l′ counts s j here = rw (s .left) (told-after i (s .chose
 
 module _ (i : Input) (c : Chosen) (h : Choice i c) where
   -- A due track that is paired: its report is told paired, in the track's slot, and is shown where the track had two updates or more.
-  pub paired-track-is-served : (n : ℕ) → n < tracksOf i → HasReport (at (c .pairing)) n → TrackServed i (c .pairing) n
+  pub paired-track-is-served : (rank : ℕ) → rank < tracksOf i → HasReport (at (c .pairing)) rank → TrackServed i (c .pairing) rank
   unfolding sectorSheet
-  paired-track-is-served n l p =
-      let here : at (c .pairing) n < reportsOf i = valid-pairing i c h .there n l p in
+  paired-track-is-served rank l p =
+      let here : at (c .pairing) rank < reportsOf i = valid-pairing i c h .there rank l p in
       record {
-        report = at (c .pairing) n;
+        report = at (c .pairing) rank;
         here = here;
         has = refl;
-        told = pairing-is-read-off i c h (at (c .pairing) n) here n l .0 refl;
-        shown = λ u. shown-exactly-when i c h (at (c .pairing) n) here .when (record { place = n; due = l; has = refl; old = u });
+        told = pairing-is-read-off i c h (at (c .pairing) rank) here rank l .0 refl;
+        shown = λ u. shown-exactly-when i c h (at (c .pairing) rank) here .when (record { rank = rank; due = l; has = refl; old = u });
       }
 
 -- The glider: where some one-to-one pairing of admissible pairs serves every due track, the call continues every due track: the answer says so,
 -- shows each that had two updates or more, and the table holds the track as its report updates it.
-pub glider : (i : Input) (l l′ : Lent) (counts : Counts) → ServedWith i l l′ counts → (Q : ℕ → ℕ) → ValidPairing (sectorSheet i) Q → ((n : ℕ) → n < tracksOf i → HasReport Q n) → (n : ℕ) → n < tracksOf i → SeenServed i l′ n
-glider i l l′ counts s Q q all n b =
-    let p : HasReport (at (s .chosen .pairing)) n = every-due-track-is-paired i (s .chosen) (s .choice) Q q all n b in
-    let w : TrackServed i (s .chosen .pairing) n = paired-track-is-served i (s .chosen) (s .choice) n b p in
+pub glider : (i : Input) (l l′ : Lent) (counts : Counts) → ServedWith i l l′ counts → (Q : ℕ → ℕ) → ValidPairing (sectorSheet i) Q → ((rank : ℕ) → rank < tracksOf i → HasReport Q rank) → (rank : ℕ) → rank < tracksOf i → SeenServed i l′ rank
+glider i l l′ counts s Q q all rank b =
+    let p : HasReport (at (s .chosen .pairing)) rank = every-due-track-is-paired i (s .chosen) (s .choice) Q q all rank b in
+    let w : TrackServed i (s .chosen .pairing) rank = paired-track-is-served i (s .chosen) (s .choice) rank b p in
     let a : AnswersTold i (s .chosen) l′ (w .report) = answers-are-told i l l′ counts s (w .report) (w .here) in
     record {
       report = w .report;
@@ -74,7 +74,7 @@ glider i l l′ counts s Q q all n b =
       fate = a .fate ∙ w .told .fate;
       slot = a .slot ∙ w .told .slot;
       shown = λ u. a .shown ∙ w .shown u;
-      continued = rw (w .has) at (paired-slot-after i l l′ counts s n b p);
+      continued = rw (w .has) at (paired-slot-after i l l′ counts s rank b p);
     }
 
 -- ---- prices
@@ -85,11 +85,11 @@ price-in-answer i l c k h =
     List·getD-append (slotPrices i (c .prices)) (drop (length (i .table)) (l .prices)) 0 k (rw (prices-length i (c .prices)) h)
     ∙ price-at i (c .prices) k h
 
--- The price of the n-th due track stands at its slot, and 0 at a slot that is not due.
-pub due-price-is-read-off : (i : Input) (l l′ : Lent) (counts : Counts) (s : ServedWith i l l′ counts) (n : ℕ) → n < tracksOf i → getD (l′ .prices) (slotOfDue i n) 0 ≡ at (s .chosen .prices) n
+-- The price of a due track stands at its slot, and 0 at a slot that is not due.
+pub due-price-is-read-off : (i : Input) (l l′ : Lent) (counts : Counts) (s : ServedWith i l l′ counts) (rank : ℕ) → rank < tracksOf i → getD (l′ .prices) (dueSlot i rank) 0 ≡ at (s .chosen .prices) rank
 unfolding slotPrice tracksOf
-due-price-is-read-off i l l′ counts s n h =
-    rw (s .left) (price-in-answer i l (s .chosen) (slotOfDue i n) (due-lies i n h) ∙ rw (due-is-due i n h, rank-is i n h))
+due-price-is-read-off i l l′ counts s rank h =
+    rw (s .left) (price-in-answer i l (s .chosen) (dueSlot i rank) (due-lies i rank h) ∙ rw (due-is-due i rank h, rank-is i rank h))
 
 pub other-price-is-zero : (i : Input) (l l′ : Lent) (counts : Counts) (s : ServedWith i l l′ counts) (k : ℕ) → k < length (i .table) → slotDue (getD (i .table) k []) ≡ false → getD (l′ .prices) k 0 ≡ 0
 unfolding slotPrice
@@ -100,12 +100,12 @@ other-price-is-zero i l l′ counts s k h d =
 
 module _ (i : Input) (l l′ : Lent) (n m : Counts) (s : ServedWith i l l′ n) (t : ServedWith i l l′ m) where
   -- a due track that one of two pairings with the same answer serves has the same report in the other
-  same-report : (k : ℕ) → k < tracksOf i → HasReport (at (t .chosen .pairing)) k → at (s .chosen .pairing) k ≡ at (t .chosen .pairing) k
-  same-report k b p =
-      let w : TrackServed i (t .chosen .pairing) k = paired-track-is-served i (t .chosen) (t .choice) k b p in
+  same-report : (rank : ℕ) → rank < tracksOf i → HasReport (at (t .chosen .pairing)) rank → at (s .chosen .pairing) rank ≡ at (t .chosen .pairing) rank
+  same-report rank b p =
+      let w : TrackServed i (t .chosen .pairing) rank = paired-track-is-served i (t .chosen) (t .choice) rank b p in
       let a : AnswersTold i (s .chosen) l′ (w .report) = answers-are-told i l l′ n s (w .report) (w .here) in
       let d : AnswersTold i (t .chosen) l′ (w .report) = answers-are-told i l l′ m t (w .report) (w .here) in
-      pairing-is-read-off i (s .chosen) (s .choice) (w .report) (w .here) k b .1
+      pairing-is-read-off i (s .chosen) (s .choice) (w .report) (w .here) rank b .1
       (record { fate = sym (a .fate) ∙ d .fate ∙ w .told .fate; slot = sym (a .slot) ∙ d .slot ∙ w .told .slot })
       ∙ sym (w .has)
 
@@ -120,15 +120,15 @@ choice-is-read-off i l l′ n m s t =
     same-chosen : (c d : Chosen) → c .pairing ≡ d .pairing → c .prices ≡ d .prices → c .discounts ≡ d .discounts → c ≡ d
     same-chosen c d e f g = λ k. record { pairing = e k; prices = f k; discounts = g k }
 
-    pairing : (k : ℕ) → k < tracksOf i → at (s .chosen .pairing) k ≡ at (t .chosen .pairing) k
-    pairing k b =
+    pairing : (rank : ℕ) → rank < tracksOf i → at (s .chosen .pairing) rank ≡ at (t .chosen .pairing) rank
+    pairing rank b =
         ⊎-elim
-        (λ z. ⊎-elim (λ y. z ∙ sym y) (same-report i l l′ n m s t k b) (same-or (at (t .chosen .pairing) k) none))
-        (λ p. sym (same-report i l l′ m n t s k b p))
-        (same-or (at (s .chosen .pairing) k) none)
+        (λ z. ⊎-elim (λ y. z ∙ sym y) (same-report i l l′ n m s t rank b) (same-or (at (t .chosen .pairing) rank) none))
+        (λ p. sym (same-report i l l′ m n t s rank b p))
+        (same-or (at (s .chosen .pairing) rank) none)
 
-    price : (k : ℕ) → k < tracksOf i → at (s .chosen .prices) k ≡ at (t .chosen .prices) k
-    price k b = sym (due-price-is-read-off i l l′ n s k b) ∙ due-price-is-read-off i l l′ m t k b
+    price : (rank : ℕ) → rank < tracksOf i → at (s .chosen .prices) rank ≡ at (t .chosen .prices) rank
+    price rank b = sym (due-price-is-read-off i l l′ n s rank b) ∙ due-price-is-read-off i l l′ m t rank b
 
-    discount : (k : ℕ) → k < reportsOf i → at (s .chosen .discounts) k ≡ at (t .chosen .discounts) k
-    discount k b = sym (answers-are-told i l l′ n s k b .discount) ∙ answers-are-told i l l′ m t k b .discount
+    discount : (j : ℕ) → j < reportsOf i → at (s .chosen .discounts) j ≡ at (t .chosen .discounts) j
+    discount j b = sym (answers-are-told i l l′ n s j b .discount) ∙ answers-are-told i l l′ m t j b .discount

@@ -49,30 +49,30 @@ module _ (i : Input) (c : Chosen) (h : Choice i c) where
   told j = cond (eqb paired (fateAt i (c .pairing) j)) 1 0
 
   abbrev has : ℕ → ℕ
-  has n = cond (eqb (P n) none) 0 1
+  has rank = cond (eqb (P rank) none) 0 1
 
   not-none : (j : ℕ) → j < reportsOf i → j ≡ none → ⊥
   not-none j l e = omega (arith, few-reports i c h)
 
-  places : (j : ℕ) → ownerOf (c .pairing) j < tracksOf i → ownerOf (c .pairing) j < length (c .pairing)
-  places j l = omega (arith, h .number-each)
+  owner-in : (j : ℕ) → ownerOf (c .pairing) j < tracksOf i → ownerOf (c .pairing) j < length (c .pairing)
+  owner-in j l = omega (arith, h .number-each)
 
   told-sum : countsOf i (c .pairing) .paired ≡ Sum (reportsOf i) told
   unfolding countsOf tally countOf
   told-sum = count-places (eqb paired) (fatesIn i (c .pairing)) 0 ∙ ap (λ (m : ℕ). Sum m told) (fates-long i (c .pairing))
 
-  track-told : (n : ℕ) → n < tracksOf i → has n ≤ cond (ltb (P n) (reportsOf i)) (told (P n)) 0
+  track-told : (rank : ℕ) → rank < tracksOf i → has rank ≤ cond (ltb (P rank) (reportsOf i)) (told (P rank)) 0
   unfolding sectorSheet
-  track-told n l = ⊎-elim none-here some-here (same-or (P n) none)
+  track-told rank l = ⊎-elim none-here some-here (same-or (P rank) none)
     where
-      none-here : P n ≡ none → has n ≤ cond (ltb (P n) (reportsOf i)) (told (P n)) 0
-      none-here e = rw (eq-eqb (P n) none e) (omega arith)
+      none-here : P rank ≡ none → has rank ≤ cond (ltb (P rank) (reportsOf i)) (told (P rank)) 0
+      none-here e = rw (eq-eqb (P rank) none e) (omega arith)
 
-      some-here : HasReport P n → has n ≤ cond (ltb (P n) (reportsOf i)) (told (P n)) 0
+      some-here : HasReport P rank → has rank ≤ cond (ltb (P rank) (reportsOf i)) (told (P rank)) 0
       some-here p =
-          let r : P n < reportsOf i = valid-pairing i c h .there n l p in
-          let o : ownerOf (c .pairing) (P n) < length (c .pairing) = owner-there (c .pairing) (P n) n (rw (h .number-each) l) refl in
-          rw (ne-eqb (P n) none p, lt-ltb (P n) (reportsOf i) r, paired-when i (c .pairing) (P n) r o) (omega arith)
+          let r : P rank < reportsOf i = valid-pairing i c h .there rank l p in
+          let o : ownerOf (c .pairing) (P rank) < length (c .pairing) = owner-there (c .pairing) (P rank) rank (rw (h .number-each) l) refl in
+          rw (ne-eqb (P rank) none p, lt-ltb (P rank) (reportsOf i) r, paired-when i (c .pairing) (P rank) r o) (omega arith)
 
   report-has : (j : ℕ) → j < reportsOf i → told j ≤ cond (ltb (ownerOf (c .pairing) j) (tracksOf i)) (has (ownerOf (c .pairing) j)) 0
   report-has j l = go (eqb paired (fateAt i (c .pairing) j)) refl
@@ -91,13 +91,13 @@ module _ (i : Input) (c : Chosen) (h : Choice i c) where
       told-sum
       ∙ le-antisymm
       (omega (arith, sum-le (reportsOf i) told (λ j. cond (ltb (ownerOf (c .pairing) j) (tracksOf i)) (has (ownerOf (c .pairing) j)) 0) report-has, sum-injective (reportsOf i) (tracksOf i) (ownerOf (c .pairing)) has owners-differ))
-      (omega (arith, sum-le (tracksOf i) has (λ n. cond (ltb (P n) (reportsOf i)) (told (P n)) 0) track-told, sum-injective (tracksOf i) (reportsOf i) P told reports-differ))
+      (omega (arith, sum-le (tracksOf i) has (λ rank. cond (ltb (P rank) (reportsOf i)) (told (P rank)) 0) track-told, sum-injective (tracksOf i) (reportsOf i) P told reports-differ))
     where
       owners-differ : (j k : ℕ) → j < reportsOf i → k < reportsOf i → ownerOf (c .pairing) j < tracksOf i → ownerOf (c .pairing) j ≡ ownerOf (c .pairing) k → j ≡ k
-      owners-differ j k a b l e = sym (owner-has (c .pairing) j (places j l)) ∙ ap P e ∙ owner-has (c .pairing) k (places k (rw (← e) l))
+      owners-differ j k a b l e = sym (owner-has (c .pairing) j (owner-in j l)) ∙ ap P e ∙ owner-has (c .pairing) k (owner-in k (rw (← e) l))
 
-      reports-differ : (n k : ℕ) → n < tracksOf i → k < tracksOf i → P n < reportsOf i → P n ≡ P k → n ≡ k
-      reports-differ n k a b r e = one-to-one i c h n k a b (not-none (P n) r) e
+      reports-differ : (rank other : ℕ) → rank < tracksOf i → other < tracksOf i → P rank < reportsOf i → P rank ≡ P other → rank ≡ other
+      reports-differ rank other a b r e = one-to-one i c h rank other a b (not-none (P rank) r) e
 
   -- Each due track is counted once: as paired, coasted or dropped.
   pub due-tracks-all-counted : countsOf i (c .pairing) .paired + (countsOf i (c .pairing) .coasted + countsOf i (c .pairing) .dropped) ≡ tracksOf i

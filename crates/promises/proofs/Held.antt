@@ -14,16 +14,16 @@ use Rattle.laws.proofs.Tests.{and-left}
 use Rattle.records.specs.declared.Track.{Track}
 use Rattle.records.specs.declared.Report.{Report}
 use Rattle.records.specs.Fields.{free, held, isWeak, allowance}
-use Rattle.records.specs.Bytes.{markAt, waitAt, trackOf, bytesOf, reportOf, slotDue}
-use Rattle.settling.specs.declared.Unpaired.the-variants.{Coasts, Dropped}
+use Rattle.records.specs.Bytes.{freed, markAt, waitAt, trackOf, bytesOf, reportOf, slotDue}
+use Rattle.settling.specs.declared.Missed.the-variants.{Coasts, Dropped}
 use Rattle.settling.specs.Settle.{updatedOf, coastedOf, withoutPair, startedOf, agedOf}
 use Rattle.matching.specs.Pairing.{none}
 use Rattle.intake.specs.Refusals.{Input, dueSlots}
 use Rattle.scoresheet.specs.Cells.{tracksOf}
-use Rattle.walk.specs.Table.{freed, pairedSlot, unpairedBytes, missedSlot, agedSlot, settledSlot, settledTable, droppedOne, missedAt, missedSum, droppedCount}
+use Rattle.walk.specs.Table.{pairedSlot, missedBytes, missedSlot, agedSlot, settledSlot, settledTable, droppedOne, missedAt, missedSum, droppedCount}
 use Rattle.walk.proofs.Settled.{settled-length, rankOf, due-at-rank, settled-at}
 use Rattle.fates.specs.declared.Told.{Told}
-use Rattle.fates.specs.Fates.{started, weak, full, noSlot, Handed, isFree, freeSlot, ownerOf, slotOf, toldPaired, toldUnpaired, afterUnpaired, toldOf, afterReport, reportNumbers, startedTable, fatesOf, countOf}
+use Rattle.fates.specs.Fates.{started, Handed, isFree, freeSlot, ownerOf, slotOf, toldPaired, toldBy, toldUnpaired, afterUnpaired, toldOf, afterReport, reportNumbers, startedTable, fatesOf, countOf}
 use Rattle.fates.proofs.Telling.{fateOut}
 use Rattle.sector.specs.declared.Counts.{Counts}
 use Rattle.sector.specs.Serve.{Lent, Chosen, Choice, reportsIn, fatesIn, tally, countsOf, afterOf, ServedWith}
@@ -70,12 +70,12 @@ missed-mark : (t : Track) (s : ℕ) → coastedOf t s .mark ≡ held
 unfolding coastedOf
 missed-mark t s = refl
 
-kept-one : (t : Track) → t .mark ≡ held → one (unpairedBytes (Coasts t)) + droppedOne (Coasts t) ≡ 1
-unfolding unpairedBytes droppedOne
+kept-one : (t : Track) → t .mark ≡ held → one (missedBytes (Coasts t)) + droppedOne (Coasts t) ≡ 1
+unfolding missedBytes droppedOne
 kept-one t e = rw (held-bytes t e)
 
-dropped-one : one (unpairedBytes Dropped) + droppedOne Dropped ≡ 1
-unfolding unpairedBytes droppedOne
+dropped-one : one (missedBytes Dropped) + droppedOne Dropped ≡ 1
+unfolding missedBytes droppedOne
 dropped-one = rw freed-not-held
 
 -- a due track that is left out is held or dropped
@@ -83,7 +83,7 @@ missed-held : (s : ℕ) (slot : List ℕ) → one (missedSlot s slot) + droppedO
 unfolding missedSlot withoutPair
 missed-held s slot = go (ltb (allowance (trackOf slot .updates)) (trackOf slot .misses + 1))
   where
-    go : (b : Bool) → one (unpairedBytes (cond b Dropped (Coasts (coastedOf (trackOf slot) s)))) + droppedOne (cond b Dropped (Coasts (coastedOf (trackOf slot) s))) ≡ 1
+    go : (b : Bool) → one (missedBytes (cond b Dropped (Coasts (coastedOf (trackOf slot) s)))) + droppedOne (cond b Dropped (Coasts (coastedOf (trackOf slot) s))) ≡ 1
     go true = dropped-one
     go false = kept-one (coastedOf (trackOf slot) s) (missed-mark (trackOf slot) s)
 
@@ -126,16 +126,11 @@ start-adds p s table l =
     count-set isHeld table (firstIndex isFree table) (bytesOf (startedOf p s)) [] l (free-not-held _ (first-found isFree table [] l)) (held-bytes (startedOf p s) refl)
 
 -- a report without a pair holds one slot more exactly where its fate is started
-abbrev toldBy : List (List ℕ) → Bool → Bool → Told
-toldBy table w f =
-    cond w (record { fate = weak; slot = noSlot; shown = 0 })
-    (cond f (record { fate = full; slot = noSlot; shown = 0 }) (record { fate = started; slot = freeSlot table; shown = 0 }))
-
 unpaired-adds : (p : Report) (s : ℕ) (table : List (List ℕ)) → heldCount (afterUnpaired p s table) ≡ heldCount table + cond (eqb started (toldUnpaired p table .fate)) 1 0
 unfolding afterUnpaired toldUnpaired
 unpaired-adds p s table = go (isWeak p) (leb (length table) (freeSlot table)) refl
   where
-    go : (w f : Bool) → leb (length table) (freeSlot table) ≡ f → heldCount (cond (eqb (toldBy table w f .fate) started) (set table (freeSlot table) (bytesOf (startedOf p s))) table) ≡ heldCount table + cond (eqb started (toldBy table w f .fate)) 1 0
+    go : (w f : Bool) → leb (length table) (freeSlot table) ≡ f → heldCount (cond (eqb (toldBy w f table .fate) started) (set table (freeSlot table) (bytesOf (startedOf p s))) table) ≡ heldCount table + cond (eqb started (toldBy w f table .fate)) 1 0
     go true f e = omega arith
     go false true e = omega arith
     go false false e = start-adds p s table (leb-false _ _ e)

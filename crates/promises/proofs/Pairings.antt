@@ -14,27 +14,26 @@ use Rattle.matching.specs.Pairing.{none, scoreEnd, Admissible, HasReport, Valid
 use Rattle.matching.specs.Answer.{Fits, checkAnswer}
 use Rattle.matching.proofs.Theorems.{zero-certificate, best-is-zero, fewest-misses, all-are-served, no-report-unused}
 use Rattle.intake.specs.Refusals.{Input}
-use Rattle.scoresheet.specs.Cells.{cellOf, tracksOf, reportsOf, cellsOf, sectorSheet}
+use Rattle.scoresheet.specs.Cells.{cellOf, tracksOf, reportsOf, cellsOf, dueTrack, sectorSheet}
 use Rattle.scoresheet.proofs.SheetLaws.{cell-is}
 use Rattle.sector.specs.Serve.{Chosen, Choice}
-use Rattle.promises.specs.Words.{dueTrack}
 use Rattle.promises.proofs.Calls.{best-of-the-sector}
 
 -- ---- admissible
 
-admissible-score : (i : Input) (n j : ℕ) (s : Scored) → scoreOf (dueTrack i n) (reportOf (getD (i .batch) j [])) (i .site) ≡ s → (s ≡ NotAdmissible → ⊥) → cellOf s ≡ none → ⊥
+admissible-score : (i : Input) (rank j : ℕ) (s : Scored) → scoreOf (dueTrack i rank) (reportOf (getD (i .batch) j [])) (i .site) ≡ s → (s ≡ NotAdmissible → ⊥) → cellOf s ≡ none → ⊥
 unfolding cellOf
-admissible-score i n j NotAdmissible e a z = a refl
-admissible-score i n j (Score x) e a z =
-    let b : x < scoreEnd = score-below (dueTrack i n) (reportOf (getD (i .batch) j [])) (i .site) x e in
+admissible-score i rank j NotAdmissible e a z = a refl
+admissible-score i rank j (Score x) e a z =
+    let b : x < scoreEnd = score-below (dueTrack i rank) (reportOf (getD (i .batch) j [])) (i .site) x e in
     omega arith
 
 -- A pair is admissible in the sector's sheet exactly when the rules of a pair's zones admit it.
-pub admissible-exactly-when : (i : Input) (n j : ℕ) → n < tracksOf i → j < reportsOf i → (Admissible (sectorSheet i) n j → scoreOf (dueTrack i n) (reportOf (getD (i .batch) j [])) (i .site) ≡ NotAdmissible → ⊥) × ((scoreOf (dueTrack i n) (reportOf (getD (i .batch) j [])) (i .site) ≡ NotAdmissible → ⊥) → Admissible (sectorSheet i) n j)
+pub admissible-exactly-when : (i : Input) (rank j : ℕ) → rank < tracksOf i → j < reportsOf i → (Admissible (sectorSheet i) rank j → scoreOf (dueTrack i rank) (reportOf (getD (i .batch) j [])) (i .site) ≡ NotAdmissible → ⊥) × ((scoreOf (dueTrack i rank) (reportOf (getD (i .batch) j [])) (i .site) ≡ NotAdmissible → ⊥) → Admissible (sectorSheet i) rank j)
 unfolding cellOf
-admissible-exactly-when i n j a b = (
-  (λ w e. w (cell-is i n j a b ∙ ap cellOf e)),
-  (λ w z. admissible-score i n j (scoreOf (dueTrack i n) (reportOf (getD (i .batch) j [])) (i .site)) refl w (sym (cell-is i n j a b) ∙ z)),
+admissible-exactly-when i rank j a b = (
+  (λ w e. w (cell-is i rank j a b ∙ ap cellOf e)),
+  (λ w z. admissible-score i rank j (scoreOf (dueTrack i rank) (reportOf (getD (i .batch) j [])) (i .site)) refl w (sym (cell-is i rank j a b) ∙ z)),
 )
 
 -- ---- a choice
@@ -55,19 +54,19 @@ module _ (i : Input) (c : Chosen) (h : Choice i c) where
   fewest-misses-of-the-sector Q q = fewest-misses (sectorSheet i) (at (c .pairing)) Q (best-of-the-sector i c h) q
 
   -- A due track is left out only where every report that is admissible for it is some due track's.
-  pub no-free-report-for-a-missed-track : (n j : ℕ) → n < tracksOf i → at (c .pairing) n ≡ none → j < reportsOf i → Admissible (sectorSheet i) n j → (k : ℕ) × ((k < tracksOf i) × (at (c .pairing) k ≡ j))
+  pub no-free-report-for-a-missed-track : (rank j : ℕ) → rank < tracksOf i → at (c .pairing) rank ≡ none → j < reportsOf i → Admissible (sectorSheet i) rank j → (other : ℕ) × ((other < tracksOf i) × (at (c .pairing) other ≡ j))
   unfolding sectorSheet
-  no-free-report-for-a-missed-track n j l m r a = no-report-unused (sectorSheet i) (at (c .pairing)) (best-of-the-sector i c h) few-reports n j l m r a
+  no-free-report-for-a-missed-track rank j l m r a = no-report-unused (sectorSheet i) (at (c .pairing)) (best-of-the-sector i c h) few-reports rank j l m r a
 
   -- Where some one-to-one pairing of admissible pairs serves every due track, every due track is paired.
-  pub every-due-track-is-paired : (Q : ℕ → ℕ) → ValidPairing (sectorSheet i) Q → ((n : ℕ) → n < tracksOf i → HasReport Q n) → (n : ℕ) → n < tracksOf i → HasReport (at (c .pairing)) n
+  pub every-due-track-is-paired : (Q : ℕ → ℕ) → ValidPairing (sectorSheet i) Q → ((rank : ℕ) → rank < tracksOf i → HasReport Q rank) → (rank : ℕ) → rank < tracksOf i → HasReport (at (c .pairing)) rank
   unfolding sectorSheet
   every-due-track-is-paired Q q all = all-are-served (sectorSheet i) (at (c .pairing)) Q (best-of-the-sector i c h) q all
 
   -- One to one: two due tracks with the same report are the same track.
-  pub one-to-one : (n k : ℕ) → n < tracksOf i → k < tracksOf i → HasReport (at (c .pairing)) n → at (c .pairing) n ≡ at (c .pairing) k → n ≡ k
+  pub one-to-one : (rank other : ℕ) → rank < tracksOf i → other < tracksOf i → HasReport (at (c .pairing)) rank → at (c .pairing) rank ≡ at (c .pairing) other → rank ≡ other
   unfolding sectorSheet
-  one-to-one n k a b p e = valid-pairing .once n k a b p e
+  one-to-one rank other a b p e = valid-pairing .once rank other a b p e
 
   -- With the sector call's prices and discounts the check accepts every best pairing of the sheet.
   pub check-accepts-every-best : (q : List ℕ) → tracksOf i ≤ length q → Best (sectorSheet i) (at q) → checkAnswer (tracksOf i) (reportsOf i) (cellsOf i) q (c .prices) (c .discounts) ≡ 0

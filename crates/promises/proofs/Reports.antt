@@ -20,59 +20,58 @@ use Rattle.settling.specs.Settle.{updatedOf, updatesMost}
 use Rattle.settling.proofs.HandedOn.{updated-updates}
 use Rattle.matching.specs.Pairing.{none, HasReport}
 use Rattle.intake.specs.Refusals.{Input, dueSlots}
-use Rattle.scoresheet.specs.Cells.{tracksOf, reportsOf}
+use Rattle.scoresheet.specs.Cells.{tracksOf, reportsOf, dueSlot, dueTrack}
 use Rattle.scoresheet.proofs.Due.{due-lies, due-is-due}
 use Rattle.laws.proofs.Places.{rising}
 use Rattle.walk.specs.Table.{pairedSlot, settledSlot, settledTable}
 use Rattle.walk.proofs.Settled.{rankOf, due-at-rank, settled-at}
-use Rattle.fates.specs.declared.Told.{Told}
-use Rattle.fates.specs.Fates.{paired, started, weak, full, noSlot, shownFrom, Handed, isFree, freeSlot, ownerOf, shownMark, slotOf, toldPaired, toldUnpaired, toldOf, afterReport, reportNumbers, fatesOf, slotsOf}
+use Rattle.fates.specs.Fates.{paired, shownFrom, Handed, isFree, freeSlot, ownerOf, shownMark, slotOf, toldPaired, toldBy, toldUnpaired, toldOf, afterReport, reportNumbers, fatesOf, slotsOf}
 use Rattle.laws.proofs.Rounds.{told-at}
 use Rattle.fates.proofs.Telling.{fateOut, slotOut}
 use Rattle.fates.proofs.Starts.{tableAt}
 use Rattle.fates.proofs.Answers.{shown-at}
 use Rattle.sector.specs.Serve.{Chosen, Choice, reportsIn, fatesIn}
-use Rattle.promises.specs.Words.{fateAt, toldSlotOf, shownAt, slotOfDue, dueTrack, updatesBefore, PairedWithOld, ToldPaired, ShownExactlyWhen}
+use Rattle.promises.specs.Words.{fateAt, toldSlotOf, shownAt, updatesBefore, PairedWithOld, ToldPaired, ShownExactlyWhen}
 use Rattle.promises.proofs.Pairings.{few-reports, one-to-one}
 
 -- ---- due tracks have slots of their own
 
 -- Two due tracks in one slot are the same track.
-pub due-slots-differ : (i : Input) (n k : ℕ) → n < tracksOf i → k < tracksOf i → slotOfDue i n ≡ slotOfDue i k → n ≡ k
+pub due-slots-differ : (i : Input) (rank other : ℕ) → rank < tracksOf i → other < tracksOf i → dueSlot i rank ≡ dueSlot i other → rank ≡ other
 unfolding tracksOf dueSlots
-due-slots-differ i n k a b e =
+due-slots-differ i rank other a b e =
     ⊎-elim
-    (λ l. ⊎-elim (λ m. omega arith) (λ m. absurd (omega (arith, rising slotDue 0 (i .table) [] n k m b))) (le-or-lt k n))
-    (λ l. absurd (omega (arith, rising slotDue 0 (i .table) [] k n l a)))
-    (le-or-lt n k)
+    (λ l. ⊎-elim (λ m. omega arith) (λ m. absurd (omega (arith, rising slotDue 0 (i .table) [] rank other m b))) (le-or-lt other rank))
+    (λ l. absurd (omega (arith, rising slotDue 0 (i .table) [] other rank l a)))
+    (le-or-lt rank other)
 
--- the n-th due track's rank is n
-pub rank-is : (i : Input) (n : ℕ) → n < tracksOf i → rankOf (i .table) (slotOfDue i n) ≡ n
+-- a due track's slot has its rank
+pub rank-is : (i : Input) (rank : ℕ) → rank < tracksOf i → rankOf (i .table) (dueSlot i rank) ≡ rank
 unfolding tracksOf
-rank-is i n l =
-    let w = due-at-rank i (slotOfDue i n) (due-lies i n l) (due-is-due i n l) in
-    due-slots-differ i (rankOf (i .table) (slotOfDue i n)) n (w .0) l (w .1)
+rank-is i rank l =
+    let w = due-at-rank i (dueSlot i rank) (due-lies i rank l) (due-is-due i rank l) in
+    due-slots-differ i (rankOf (i .table) (dueSlot i rank)) rank (w .0) l (w .1)
 
--- the slot of the n-th due track after pairing, where it has a report
-pub settled-due : (i : Input) (P : List ℕ) (n : ℕ) → n < tracksOf i → HasReport (at P) n → getD (settledTable i P) (slotOfDue i n) [] ≡ bytesOf (updatedOf (dueTrack i n) (reportOf (getD (i .batch) (at P n) [])) (i .sector))
+-- a due track's slot after pairing, where it has a report
+pub settled-due : (i : Input) (P : List ℕ) (rank : ℕ) → rank < tracksOf i → HasReport (at P) rank → getD (settledTable i P) (dueSlot i rank) [] ≡ bytesOf (updatedOf (dueTrack i rank) (reportOf (getD (i .batch) (at P rank) [])) (i .sector))
 unfolding tracksOf settledSlot pairedSlot
-settled-due i P n l p =
-    settled-at i P (slotOfDue i n) (due-lies i n l)
-    ∙ rw (due-is-due i n l, rank-is i n l, ne-eqb (at P n) none p)
+settled-due i P rank l p =
+    settled-at i P (dueSlot i rank) (due-lies i rank l)
+    ∙ rw (due-is-due i rank l, rank-is i rank l, ne-eqb (at P rank) none p)
 
 -- ---- who has a report
 
--- the place that the pairing has report j at names it
+-- the rank that the pairing has report j at names it
 pub owner-has : (P : List ℕ) (j : ℕ) → ownerOf P j < length P → at P (ownerOf P j) ≡ j
 unfolding ownerOf
 owner-has P j l = sym (eqb-true j _ (first-found (eqb j) P 0 l))
 
--- and where some place names it, there is such a place
-pub owner-there : (P : List ℕ) (j n : ℕ) → n < length P → at P n ≡ j → ownerOf P j < length P
+-- and where some rank names it, there is such a rank
+pub owner-there : (P : List ℕ) (j rank : ℕ) → rank < length P → at P rank ≡ j → ownerOf P j < length P
 unfolding ownerOf
-owner-there P j n l e =
+owner-there P j rank l e =
     ⊎-elim
-    (λ m. absurd (clash (eq-eqb j (at P n) (sym e)) (first-before (eqb j) P 0 n (omega arith))))
+    (λ m. absurd (clash (eq-eqb j (at P rank) (sym e)) (first-before (eqb j) P 0 rank (omega arith))))
     (λ m. m)
     (le-or-lt (length P) (firstIndex (eqb j) P))
 
@@ -86,7 +85,7 @@ told-unpaired : (h : Handed) (P : List ℕ) (j : ℕ) (table : List (List ℕ)) 
 unfolding toldOf toldUnpaired
 told-unpaired h P j table l = rw (le-ltb (ownerOf P j) (length P) l) (go (isWeak (reportOf (getD (h .batch) j []))) (leb (length table) (freeSlot table)))
   where
-    go : (b c : Bool) → (cond {A = Told} b (record { fate = weak; slot = noSlot; shown = 0 }) (cond c (record { fate = full; slot = noSlot; shown = 0 }) (record { fate = started; slot = freeSlot table; shown = 0 }))) .fate ≡ paired → ⊥
+    go : (b c : Bool) → toldBy b c table .fate ≡ paired → ⊥
     go true c e = omega arith
     go false true e = omega arith
     go false false e = omega arith
@@ -100,7 +99,7 @@ module _ (i : Input) (P : List ℕ) (j : ℕ) (here : j < reportsOf i) where
   unfolding slotsOf reportNumbers reportsOf
   slot-is = told-at (afterReport (reportsIn i) P) (slotOut (reportsIn i) P) (length (i .batch)) (λ k. k) (settledTable i P) j 0 here
 
-  -- told paired: some place of the pairing names the report
+  -- told paired: some rank of the pairing names the report
   pub paired-when : ownerOf P j < length P → fateAt i P j ≡ paired
   paired-when l = fate-is ∙ told-paired (reportsIn i) P j _ l .0
 
@@ -108,8 +107,8 @@ module _ (i : Input) (P : List ℕ) (j : ℕ) (here : j < reportsOf i) where
   paired-only e =
       ⊎-elim (λ m. absurd (told-unpaired (reportsIn i) P j _ m (sym fate-is ∙ e))) (λ m. m) (le-or-lt (length P) (ownerOf P j))
 
-  -- and the slot is that of the due track at that place
-  pub paired-slot : ownerOf P j < length P → toldSlotOf i P j ≡ slotOfDue i (ownerOf P j)
+  -- and the slot is that of the due track of that rank
+  pub paired-slot : ownerOf P j < length P → toldSlotOf i P j ≡ dueSlot i (ownerOf P j)
   unfolding slotOf
   paired-slot l = slot-is ∙ told-paired (reportsIn i) P j _ l .1
 
@@ -122,29 +121,29 @@ module _ (i : Input) (c : Chosen) (h : Choice i c) (j : ℕ) (here : j < reports
   pub owner-due : owner < length (c .pairing) → owner < tracksOf i
   owner-due l = omega (arith, h .number-each)
 
-  pub named-is-paired : (n : ℕ) → at (c .pairing) n ≡ j → HasReport (at (c .pairing)) n
-  named-is-paired n e z = omega (arith, few-reports i c h)
+  pub named-is-paired : (rank : ℕ) → at (c .pairing) rank ≡ j → HasReport (at (c .pairing)) rank
+  named-is-paired rank e z = omega (arith, few-reports i c h)
 
-  -- the place that names report j is the only one
-  owner-is : (n : ℕ) → n < tracksOf i → at (c .pairing) n ≡ j → (owner < length (c .pairing)) × (owner ≡ n)
-  owner-is n l e =
-      let o : owner < length (c .pairing) = owner-there (c .pairing) j n (rw (h .number-each) l) e in
+  -- the rank that names report j is the only one
+  owner-is : (rank : ℕ) → rank < tracksOf i → at (c .pairing) rank ≡ j → (owner < length (c .pairing)) × (owner ≡ rank)
+  owner-is rank l e =
+      let o : owner < length (c .pairing) = owner-there (c .pairing) j rank (rw (h .number-each) l) e in
       let w : at (c .pairing) owner ≡ j = owner-has (c .pairing) j o in
-      (o, one-to-one i c h owner n (owner-due o) l (named-is-paired owner w) (w ∙ sym e))
+      (o, one-to-one i c h owner rank (owner-due o) l (named-is-paired owner w) (w ∙ sym e))
 
-  -- The pairing can be read off the answer: the n-th due track has report j exactly when report j is told paired, in that track's slot.
-  pub pairing-is-read-off : (n : ℕ) → n < tracksOf i → (at (c .pairing) n ≡ j → ToldPaired i (c .pairing) j n) × (ToldPaired i (c .pairing) j n → at (c .pairing) n ≡ j)
-  pairing-is-read-off n l = (said, read)
+  -- The pairing can be read off the answer: the due track of a rank has report j exactly when report j is told paired, in that track's slot.
+  pub pairing-is-read-off : (rank : ℕ) → rank < tracksOf i → (at (c .pairing) rank ≡ j → ToldPaired i (c .pairing) j rank) × (ToldPaired i (c .pairing) j rank → at (c .pairing) rank ≡ j)
+  pairing-is-read-off rank l = (said, read)
     where
-      said : at (c .pairing) n ≡ j → ToldPaired i (c .pairing) j n
+      said : at (c .pairing) rank ≡ j → ToldPaired i (c .pairing) j rank
       said e =
-          let o = owner-is n l e in
-          record { fate = paired-when i (c .pairing) j here (o .0); slot = paired-slot i (c .pairing) j here (o .0) ∙ ap (slotOfDue i) (o .1) }
+          let o = owner-is rank l e in
+          record { fate = paired-when i (c .pairing) j here (o .0); slot = paired-slot i (c .pairing) j here (o .0) ∙ ap (dueSlot i) (o .1) }
 
-      read : ToldPaired i (c .pairing) j n → at (c .pairing) n ≡ j
+      read : ToldPaired i (c .pairing) j rank → at (c .pairing) rank ≡ j
       read t =
           let o : owner < length (c .pairing) = paired-only i (c .pairing) j here (t .fate) in
-          let e : owner ≡ n = due-slots-differ i owner n (owner-due o) l (sym (paired-slot i (c .pairing) j here o) ∙ t .slot) in
+          let e : owner ≡ rank = due-slots-differ i owner rank (owner-due o) l (sym (paired-slot i (c .pairing) j here o) ∙ t .slot) in
           rw e at (owner-has (c .pairing) j o)
 
 -- One to one, in the answer's words: two reports that are told paired with the same slot are the same report.
@@ -198,7 +197,7 @@ module _ (i : Input) (c : Chosen) (h : Choice i c) (j : ℕ) (here : j < reports
       ⊎-elim
       (λ l. record {
         only = λ e. absurd (omega (arith, shown-unpaired l));
-        when = λ w. absurd (omega (arith, owner-is i c h j here (w .place) (w .due) (w .has) .0));
+        when = λ w. absurd (omega (arith, owner-is i c h j here (w .rank) (w .due) (w .has) .0));
         otherwise = λ n. shown-unpaired l;
       })
       (λ l. ⊎-elim (old l) (young l) (le-or-lt updatesBefore (dueTrack i (ownerOf (c .pairing) j) .updates)))
@@ -207,7 +206,7 @@ module _ (i : Input) (c : Chosen) (h : Choice i c) (j : ℕ) (here : j < reports
       old : ownerOf (c .pairing) j < length (c .pairing) → updatesBefore ≤ dueTrack i (ownerOf (c .pairing) j) .updates → ShownExactlyWhen i (c .pairing) j
       old l u =
           let e : shownAt i (c .pairing) j ≡ 1 = shown-paired l ∙ rw (le-leb updatesBefore (dueTrack i (ownerOf (c .pairing) j) .updates) u) in
-          let w : PairedWithOld i (c .pairing) j = record { place = ownerOf (c .pairing) j; due = owner-due i c h j here l; has = owner-has (c .pairing) j l; old = u } in
+          let w : PairedWithOld i (c .pairing) j = record { rank = ownerOf (c .pairing) j; due = owner-due i c h j here l; has = owner-has (c .pairing) j l; old = u } in
           record { only = λ q. w; when = λ q. e; otherwise = λ n. absurd (n w) }
 
       young : ownerOf (c .pairing) j < length (c .pairing) → dueTrack i (ownerOf (c .pairing) j) .updates < updatesBefore → ShownExactlyWhen i (c .pairing) j
@@ -216,7 +215,7 @@ module _ (i : Input) (c : Chosen) (h : Choice i c) (j : ℕ) (here : j < reports
           record {
             only = λ q. absurd (omega arith);
             when = λ w.
-                let o : ownerOf (c .pairing) j ≡ w .place = owner-is i c h j here (w .place) (w .due) (w .has) .1 in
+                let o : ownerOf (c .pairing) j ≡ w .rank = owner-is i c h j here (w .rank) (w .due) (w .has) .1 in
                 absurd (omega (arith, rw (← o) at (w .old)));
             otherwise = λ n. e;
           }

@@ -17,22 +17,22 @@ use Rattle.laws.proofs.Stores.{same-or}
 use Rattle.laws.proofs.Tests.{clash}
 use Rattle.records.specs.declared.Track.{Track}
 use Rattle.records.specs.Fields.{free, allowance, isWeak}
-use Rattle.records.specs.Bytes.{markAt, bytesOf, reportOf}
+use Rattle.records.specs.Bytes.{freed, markAt, bytesOf, reportOf}
 use Rattle.records.proofs.Checked.{free-slot-not-due}
 use Rattle.settling.specs.Settle.{updatedOf, coastedOf, startedOf}
 use Rattle.settling.proofs.HandedOn.{coasted-keeps, coasted-drops}
 use Rattle.matching.specs.Pairing.{none, HasReport}
 use Rattle.intake.specs.Refusals.{Input}
-use Rattle.scoresheet.specs.Cells.{tracksOf, reportsOf}
+use Rattle.scoresheet.specs.Cells.{tracksOf, reportsOf, dueSlot, dueTrack}
 use Rattle.scoresheet.proofs.Due.{due-lies, due-is-due}
-use Rattle.walk.specs.Table.{freed, missedSlot, agedSlot, settledSlot, settledTable}
+use Rattle.walk.specs.Table.{missedSlot, agedSlot, settledSlot, settledTable}
 use Rattle.walk.proofs.Slots.{missed-kept, missed-dropped}
 use Rattle.walk.proofs.Settled.{settled-length, settled-at}
 use Rattle.fates.specs.Fates.{started, Handed, isFree, freeSlot, ownerOf, toldPaired, toldUnpaired, toldOf, afterUnpaired, afterReport, reportNumbers, startedTable}
 use Rattle.fates.proofs.Starts.{report-keeps, tableAt, length-at, start-elsewhere, held-at, held-slots-kept}
 use Rattle.sector.specs.declared.Counts.{Counts}
 use Rattle.sector.specs.Serve.{Lent, reportsIn, afterOf, ServedWith}
-use Rattle.promises.specs.Words.{fateAt, toldSlotOf, slotOfDue, dueTrack, StartedThere, LeftOrStarted}
+use Rattle.promises.specs.Words.{fateAt, toldSlotOf, StartedThere, LeftOrStarted}
 use Rattle.promises.proofs.Reports.{rank-is, settled-due, fate-is, slot-is, updated-held}
 
 -- ---- as pairing leaves a slot
@@ -41,9 +41,9 @@ missed-held : (t : Track) (s : ℕ) → isFree (bytesOf (coastedOf t s)) ≡ fal
 unfolding isFree bytesOf coastedOf
 missed-held t s = refl
 
-lies : (i : Input) (n : ℕ) → n < tracksOf i → slotOfDue i n < length (i .table)
+lies : (i : Input) (rank : ℕ) → rank < tracksOf i → dueSlot i rank < length (i .table)
 unfolding tracksOf
-lies i n h = due-lies i n h
+lies i rank h = due-lies i rank h
 
 in-batch : (i : Input) (j : ℕ) → j < reportsOf i → j < length (i .batch)
 unfolding reportsOf
@@ -51,9 +51,9 @@ in-batch i j h = h
 
 module _ (i : Input) (P : List ℕ) where
   -- the slot of a due track without a pair
-  missed-due : (n : ℕ) → n < tracksOf i → at P n ≡ none → getD (settledTable i P) (slotOfDue i n) [] ≡ missedSlot (i .sector) (getD (i .table) (slotOfDue i n) [])
+  missed-due : (rank : ℕ) → rank < tracksOf i → at P rank ≡ none → getD (settledTable i P) (dueSlot i rank) [] ≡ missedSlot (i .sector) (getD (i .table) (dueSlot i rank) [])
   unfolding tracksOf settledSlot
-  missed-due n h e = settled-at i P (slotOfDue i n) (due-lies i n h) ∙ rw (due-is-due i n h, rank-is i n h, eq-eqb (at P n) none e)
+  missed-due rank h e = settled-at i P (dueSlot i rank) (due-lies i rank h) ∙ rw (due-is-due i rank h, rank-is i rank h, eq-eqb (at P rank) none e)
 
   -- a free slot
   settled-free : (k : ℕ) → k < length (i .table) → at (getD (i .table) k []) markAt ≡ free → getD (settledTable i P) k [] ≡ getD (i .table) k []
@@ -182,23 +182,23 @@ module _ (i : Input) (l l′ : Lent) (counts : Counts) (s : ServedWith i l l′ 
   kept k f = left-slot k ∙ held-slots-kept (reportsIn i) P (settledTable i P) k f
 
   -- A due track with a pair: its slot holds it, updated by its report.
-  pub paired-slot-after : (n : ℕ) → n < tracksOf i → HasReport (at P) n → getD (l′ .table) (slotOfDue i n) [] ≡ bytesOf (updatedOf (dueTrack i n) (reportOf (getD (i .batch) (at P n) [])) (i .sector))
-  paired-slot-after n h p =
-      let e = settled-due i P n h p in
-      kept (slotOfDue i n) (rw e (updated-held _ _ _)) ∙ e
+  pub paired-slot-after : (rank : ℕ) → rank < tracksOf i → HasReport (at P) rank → getD (l′ .table) (dueSlot i rank) [] ≡ bytesOf (updatedOf (dueTrack i rank) (reportOf (getD (i .batch) (at P rank) [])) (i .sector))
+  paired-slot-after rank h p =
+      let e = settled-due i P rank h p in
+      kept (dueSlot i rank) (rw e (updated-held _ _ _)) ∙ e
 
   -- A due track without a pair that may miss once more: its slot holds it, coasted.
-  pub coasted-slot-after : (n : ℕ) → n < tracksOf i → at P n ≡ none → dueTrack i n .misses + 1 ≤ allowance (dueTrack i n .updates) → getD (l′ .table) (slotOfDue i n) [] ≡ bytesOf (coastedOf (dueTrack i n) (i .sector))
-  coasted-slot-after n h e a =
-      let m : getD (settledTable i P) (slotOfDue i n) [] ≡ bytesOf (coastedOf (dueTrack i n) (i .sector)) =
-      missed-due i P n h e ∙ missed-kept (i .sector) (getD (i .table) (slotOfDue i n) []) _ (coasted-keeps (dueTrack i n) (i .sector) a) in
-      kept (slotOfDue i n) (rw m (missed-held _ _)) ∙ m
+  pub coasted-slot-after : (rank : ℕ) → rank < tracksOf i → at P rank ≡ none → dueTrack i rank .misses + 1 ≤ allowance (dueTrack i rank .updates) → getD (l′ .table) (dueSlot i rank) [] ≡ bytesOf (coastedOf (dueTrack i rank) (i .sector))
+  coasted-slot-after rank h e a =
+      let m : getD (settledTable i P) (dueSlot i rank) [] ≡ bytesOf (coastedOf (dueTrack i rank) (i .sector)) =
+      missed-due i P rank h e ∙ missed-kept (i .sector) (getD (i .table) (dueSlot i rank) []) _ (coasted-keeps (dueTrack i rank) (i .sector) a) in
+      kept (dueSlot i rank) (rw m (missed-held _ _)) ∙ m
 
   -- Another is dropped: its slot is all zero, or holds a track that some report started there.
-  pub dropped-slot-after : (n : ℕ) → n < tracksOf i → at P n ≡ none → allowance (dueTrack i n .updates) < dueTrack i n .misses + 1 → LeftOrStarted i P (slotOfDue i n) freed (getD (l′ .table) (slotOfDue i n) [])
-  dropped-slot-after n h e a =
-      rw (missed-due i P n h e, missed-dropped (i .sector) (getD (i .table) (slotOfDue i n) []) (coasted-drops (dueTrack i n) (i .sector) a))
-      at (slot-after (slotOfDue i n) (lies i n h))
+  pub dropped-slot-after : (rank : ℕ) → rank < tracksOf i → at P rank ≡ none → allowance (dueTrack i rank .updates) < dueTrack i rank .misses + 1 → LeftOrStarted i P (dueSlot i rank) freed (getD (l′ .table) (dueSlot i rank) [])
+  dropped-slot-after rank h e a =
+      rw (missed-due i P rank h e, missed-dropped (i .sector) (getD (i .table) (dueSlot i rank) []) (coasted-drops (dueTrack i rank) (i .sector) a))
+      at (slot-after (dueSlot i rank) (lies i rank h))
 
   -- A free slot keeps its bytes, or holds a track that some report started there.
   pub free-slot-after : (k : ℕ) → k < length (i .table) → at (getD (i .table) k []) markAt ≡ free → LeftOrStarted i P k (getD (i .table) k []) (getD (l′ .table) k [])

@@ -7,17 +7,16 @@ use mathlib.Core.List.{List, []}
 use lib.Dec.{eqb}
 use lib.ListN.{length, getD, take}
 use Rattle.laws.specs.Lists.{at, indicesFrom}
-use Rattle.records.specs.declared.Track.{Track}
 use Rattle.records.specs.Fields.{held}
-use Rattle.records.specs.Bytes.{markAt, trackOf, bytesOf, reportOf}
+use Rattle.records.specs.Bytes.{markAt, bytesOf, reportOf}
 use Rattle.settling.specs.Settle.{updatedOf, startedOf}
 use Rattle.matching.specs.Pairing.{pairs, scoreSum, Agree}
 use Rattle.engine.specs.declared.Paired.{Paired}
 use Rattle.engine.specs.declared.Paired.the-variants as paired-call
-use Rattle.intake.specs.Refusals.{Input, dueSlots}
+use Rattle.intake.specs.Refusals.{Input}
 use Rattle.scoresheet.specs.declared.Sheeted.{Sheeted}
 use Rattle.scoresheet.specs.declared.Sheeted.the-variants as sheet-call
-use Rattle.scoresheet.specs.Cells.{tracksOf, reportsOf, sectorSheet}
+use Rattle.scoresheet.specs.Cells.{tracksOf, reportsOf, dueSlot, dueTrack, sectorSheet}
 use Rattle.walk.specs.Table.{settledTable}
 use Rattle.fates.specs.Fates.{paired, started, shownFrom, isFree, slotsOf, shownOf}
 use Rattle.sector.specs.declared.Counts.{Counts}
@@ -35,28 +34,21 @@ toldSlotOf i P j = getD (slotsOf (reportsIn i) P (settledTable i P)) j 0
 abbrev pub shownAt : Input → List ℕ → ℕ → ℕ
 shownAt i P j = getD (shownOf (reportsIn i) P (settledTable i P)) j 0
 
--- the slot of the n-th due track, and that track as the call found it
-abbrev pub slotOfDue : Input → ℕ → ℕ
-slotOfDue i n = getD (dueSlots (i .table)) n 0
-
-abbrev pub dueTrack : Input → ℕ → Track
-dueTrack i n = trackOf (getD (i .table) (slotOfDue i n) [])
-
 -- so many updates before the one that shows a track
 abbrev pub updatesBefore : ℕ
 updatesBefore = shownFrom - 1
 
--- report j is paired with the due track at some place, which had two updates or more when the call came
+-- report j is paired with the due track of some rank, which had two updates or more when the call came
 pub record PairedWithOld (i : Input) (P : List ℕ) (j : ℕ) : Type 0 where
-  pub place : ℕ
-  pub due : place < tracksOf i
-  pub has : at P place ≡ j
-  pub old : updatesBefore ≤ dueTrack i place .updates
+  pub rank : ℕ
+  pub due : rank < tracksOf i
+  pub has : at P rank ≡ j
+  pub old : updatesBefore ≤ dueTrack i rank .updates
 
--- report j is told that it is paired, in the slot of the n-th due track
-pub record ToldPaired (i : Input) (P : List ℕ) (j n : ℕ) : Type 0 where
+-- report j is told that it is paired, in the slot of the due track of a rank
+pub record ToldPaired (i : Input) (P : List ℕ) (j rank : ℕ) : Type 0 where
   pub fate : fateAt i P j ≡ paired
-  pub slot : toldSlotOf i P j ≡ slotOfDue i n
+  pub slot : toldSlotOf i P j ≡ dueSlot i rank
 
 -- the shown mark of report j is 1 exactly when it is so paired, else 0
 pub record ShownExactlyWhen (i : Input) (P : List ℕ) (j : ℕ) : Type 0 where
@@ -64,13 +56,13 @@ pub record ShownExactlyWhen (i : Input) (P : List ℕ) (j : ℕ) : Type 0 where
   pub when : PairedWithOld i P j → shownAt i P j ≡ 1
   pub otherwise : (PairedWithOld i P j → ⊥) → shownAt i P j ≡ 0
 
--- the n-th due track has a report, which is told so, and is shown where the track had two updates or more
-pub record TrackServed (i : Input) (P : List ℕ) (n : ℕ) : Type 0 where
+-- the due track of a rank has a report, which is told so, and is shown where the track had two updates or more
+pub record TrackServed (i : Input) (P : List ℕ) (rank : ℕ) : Type 0 where
   pub report : ℕ
   pub here : report < reportsOf i
-  pub has : at P n ≡ report
-  pub told : ToldPaired i P report n
-  pub shown : updatesBefore ≤ dueTrack i n .updates → shownAt i P report ≡ 1
+  pub has : at P rank ≡ report
+  pub told : ToldPaired i P report rank
+  pub shown : updatesBefore ≤ dueTrack i rank .updates → shownAt i P report ≡ 1
 
 -- how many slots of a table hold a track
 unfoldable pub isHeld : List ℕ → Bool
@@ -79,15 +71,15 @@ isHeld slot = eqb (at slot markAt) held
 unfoldable pub heldCount : List (List ℕ) → ℕ
 heldCount table = length (indicesFrom isHeld 0 table)
 
--- the n-th due track, as the call leaves it: some report is told paired in its slot, is shown where the track had two updates or more, and
+-- the due track of a rank, as the call leaves it: some report is told paired in its slot, is shown where the track had two updates or more, and
 -- the slot holds the track, updated by that report
-pub record SeenServed (i : Input) (l′ : Lent) (n : ℕ) : Type 0 where
+pub record SeenServed (i : Input) (l′ : Lent) (rank : ℕ) : Type 0 where
   pub report : ℕ
   pub here : report < reportsOf i
   pub fate : getD (l′ .fates) report 0 ≡ paired
-  pub slot : getD (l′ .slots) report 0 ≡ slotOfDue i n
-  pub shown : updatesBefore ≤ dueTrack i n .updates → getD (l′ .shown) report 0 ≡ 1
-  pub continued : getD (l′ .table) (slotOfDue i n) [] ≡ bytesOf (updatedOf (dueTrack i n) (reportOf (getD (i .batch) report [])) (i .sector))
+  pub slot : getD (l′ .slots) report 0 ≡ dueSlot i rank
+  pub shown : updatesBefore ≤ dueTrack i rank .updates → getD (l′ .shown) report 0 ≡ 1
+  pub continued : getD (l′ .table) (dueSlot i rank) [] ≡ bytesOf (updatedOf (dueTrack i rank) (reportOf (getD (i .batch) report [])) (i .sector))
 
 -- report j started its track in slot k, which pairing had left free, and is told so; slot is what stands there after the call
 pub record StartedThere (i : Input) (P : List ℕ) (j k : ℕ) (slot : List ℕ) : Type 0 where

@@ -4,36 +4,28 @@ use mathlib.Core.Path.{_≡_}
 use mathlib.Core.Bool.{true}
 use mathlib.Core.List.{List, []}
 use native.Mathlib.Omega.{arith}
-use borrow.Author.Tests.{eqb-true}
-use lib.Dec.{eqb}
 use lib.ListN.{length, getD}
 use Rattle.laws.proofs.Ranks.{named}
-use Rattle.laws.proofs.Tests.{and-left}
-use Rattle.records.specs.Fields.{held, WellFormed}
-use Rattle.laws.specs.Lists.{at}
-use Rattle.records.specs.Bytes.{markAt, waitAt, trackOf, slotDue}
-use Rattle.records.proofs.Checked.{slot-well-formed}
+use Rattle.laws.proofs.Tests.{clash}
+use Rattle.records.specs.Fields.{trackFields, WellFormed}
+use Rattle.records.specs.Bytes.{trackOf, badSlotField, slotDue}
+use Rattle.records.proofs.Checked.{free-slot-not-due, slot-well-formed}
 use Rattle.intake.specs.Refusals.{Input, dueSlots, Ready}
+use Rattle.scoresheet.specs.Cells.{dueSlot, dueTrack}
 
--- the slot of the i-th due track
-abbrev pub dueSlot : Input → ℕ → ℕ
-dueSlot i n = getD (dueSlots (i .table)) n 0
-
-pub due-lies : (i : Input) (n : ℕ) → n < length (dueSlots (i .table)) → dueSlot i n < length (i .table)
+pub due-lies : (i : Input) (rank : ℕ) → rank < length (dueSlots (i .table)) → dueSlot i rank < length (i .table)
 unfolding dueSlots
-due-lies i n h = omega (arith, named slotDue 0 (i .table) [] n h .within)
+due-lies i rank h = omega (arith, named slotDue 0 (i .table) [] rank h .within)
 
-pub due-is-due : (i : Input) (n : ℕ) → n < length (dueSlots (i .table)) → slotDue (getD (i .table) (dueSlot i n) []) ≡ true
+pub due-is-due : (i : Input) (rank : ℕ) → rank < length (dueSlots (i .table)) → slotDue (getD (i .table) (dueSlot i rank) []) ≡ true
 unfolding dueSlots
-due-is-due i n h =
-    let e : dueSlot i n - 0 ≡ dueSlot i n = omega arith in
-    rw e at (named slotDue 0 (i .table) [] n h .kind)
+due-is-due i rank h =
+    let e : dueSlot i rank - 0 ≡ dueSlot i rank = omega arith in
+    rw e at (named slotDue 0 (i .table) [] rank h .kind)
 
-pub due-held : (slot : List ℕ) → slotDue slot ≡ true → at slot markAt ≡ held
-unfolding slotDue
-due-held slot e = eqb-true _ _ (and-left _ (eqb (at slot waitAt) 0) e)
+-- a due slot that is not malformed holds a well-formed track
+pub due-track : (slot : List ℕ) (s : ℕ) → badSlotField slot s ≡ trackFields → slotDue slot ≡ true → WellFormed (trackOf slot) s
+due-track slot s e d = slot-well-formed slot s e (λ f. clash d (free-slot-not-due slot f))
 
-pub due-well-formed : (i : Input) (n : ℕ) → Ready i → n < length (dueSlots (i .table)) → WellFormed (trackOf (getD (i .table) (dueSlot i n) [])) (i .sector)
-due-well-formed i n r h =
-    let m : at (getD (i .table) (dueSlot i n) []) markAt ≡ held = due-held _ (due-is-due i n h) in
-    slot-well-formed _ _ (r .slots-good _ (due-lies i n h)) (λ f. omega (arith, m, f))
+pub due-well-formed : (i : Input) (rank : ℕ) → Ready i → rank < length (dueSlots (i .table)) → WellFormed (dueTrack i rank) (i .sector)
+due-well-formed i rank r h = due-track _ _ (r .slots-good _ (due-lies i rank h)) (due-is-due i rank h)

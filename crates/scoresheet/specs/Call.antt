@@ -23,6 +23,7 @@ unfoldable pub sheetBy : ℕ → Input → List ℕ → List ℕ
 sheetBy zero i sheet = cellsOf i ++ drop (tracksOf i * reportsOf i) sheet
 sheetBy (suc k) i sheet = sheet
 
+-- both, by the number that the call is to give back
 unfoldable pub sheetedOf : Input → List ℕ → Sheeted
 sheetedOf i sheet = sheetedBy (refusalOf i (cellRoom i sheet)) i
 

@@ -40,6 +40,14 @@ tracksOf i = length (dueSlots (i .table))
 unfoldable pub reportsOf : Input → ℕ
 reportsOf i = length (i .batch)
 
+-- the due tracks have ranks 0, 1, .. in slot order, and so have the rows and the entries of a pairing: the slot of the due track of a
+-- rank, and that track as the call found it
+abbrev pub dueSlot : Input → ℕ → ℕ
+dueSlot i rank = getD (dueSlots (i .table)) rank 0
+
+abbrev pub dueTrack : Input → ℕ → Track
+dueTrack i rank = trackOf (getD (i .table) (dueSlot i rank) [])
+
 -- the sheet, as the pairing reads it
 unfoldable pub sectorSheet : Input → Sheet
 sectorSheet i = sheetOf (tracksOf i) (reportsOf i) (cellsOf i)

@@ -53,14 +53,14 @@ pub fn fill_rows(
     ensures { λ _. ⌜ now (sheet .exit) ≡ cellsOf (input (now (table .entry)) sector site (now (batch .entry))) ++ drop (length (now (due .entry)) * length (now (batch .entry))) (now (sheet .entry)) ⌝ }
 {
     let reports = batch.len();
-    let mut i: usize = 0;
-    while i < due.len() {
-        let k = due[i];
+    let mut rank: usize = 0;
+    while rank < due.len() {
+        let k = due[rank];
         let slot = table[k];
-        let from = i * reports;
+        let from = rank * reports;
         let to = from + reports;
         fill_row(records::unpack(slot), site, batch, &mut sheet[from..to]);
-        i += 1;
+        rank += 1;
     }
 }
 

@@ -6,7 +6,7 @@ use Rattle.numbers.specs.Azimuth.{signed16, azimuthDifference}
 use Rattle.records.specs.declared.Track.{Track}
 use Rattle.records.specs.declared.Report.{Report}
 use Rattle.records.specs.declared.Site.{Site}
-use Rattle.scoring.specs.Zone.{rangeOff, azimuthOff, withinSigmas, azimuthReach, withinReach, withinOuter, zoneOf}
+use Rattle.scoring.specs.Zone.{rangeOff, azimuthOff, withinSigmas, azimuthReach, withinReach, withinOuter, innerDigit, zoneOf}
 
 abbrev pub coarse : Site
 coarse = record { «range_sigma» = 255; «azimuth_sigma» = 255 }
@@ -40,6 +40,6 @@ pub beyond-outer : withinOuter young far coarse ≡ false
 unfolding withinOuter withinReach rangeOff azimuthOff azimuthDifference signed16 azimuthReach
 beyond-outer = refl
 
-pub beyond-inner : zoneOf young far coarse ≡ 3
+pub beyond-inner : zoneOf young far coarse ≡ innerDigit
 unfolding zoneOf withinSigmas rangeOff azimuthOff azimuthDifference signed16
 beyond-inner = refl

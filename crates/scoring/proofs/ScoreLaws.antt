@@ -1,5 +1,5 @@
 -- Laws of the zone, of each digit, and of the score.
-use Prim.Native.Nat.{ℕ, _+_, _*_, _≤_, _<_, _^_}
+use Prim.Native.Nat.{ℕ, _+_, _*_, _≤_, _<_}
 use mathlib.Core.Path.{_≡_, refl}
 use mathlib.Core.Bool.{Bool, true, false, cond}
 use native.Mathlib.Omega.{arith}
@@ -9,22 +9,22 @@ use Rattle.records.specs.declared.Report.{Report}
 use Rattle.records.specs.declared.Site.{Site}
 use Rattle.records.specs.Fields.{growingFrom, matureFrom, sureConfidence, sureQuality}
 use Rattle.scoring.specs.declared.Scored.the-variants.{NotAdmissible, Score}
-use Rattle.scoring.specs.Zone.{rangeOff, azimuthOff, withinSigmas, innerSigmas, withinOuter, zoneOf}
-use Rattle.scoring.specs.Score.{pairPosition, oneUnless, dopplerAgrees, dopplerOf, updatesAge, ageOf, confidenceTrust, qualityTrust, trustOf, worthOf, scoreOf}
+use Rattle.scoring.specs.Zone.{rangeOff, azimuthOff, withinSigmas, innerSigmas, withinOuter, innerDigit, outerDigit, zoneOf}
+use Rattle.scoring.specs.Score.{pairPosition, oneUnless, dopplerAgrees, dopplerOf, newAge, growingAge, updatesAge, ageOf, confidenceTrust, qualityTrust, trustOf, digitsEnd, worthOf, scoreOf}
 use Rattle.scoring.proofs.PositionLaws.{position-most}
 
 -- a pair in the inner zone is inner, even where a track of one update does not reach so far
-pub inner-first : (t : Track) (p : Report) (g : Site) → withinSigmas innerSigmas t p g ≡ true → zoneOf t p g ≡ 3
+pub inner-first : (t : Track) (p : Report) (site : Site) → withinSigmas innerSigmas t p site ≡ true → zoneOf t p site ≡ innerDigit
 unfolding zoneOf
-inner-first t p g e = rw e
+inner-first t p site e = rw e
 
 -- ---- how large each digit is
 
-pub zone-most : (t : Track) (p : Report) (g : Site) → zoneOf t p g ≤ 6
+pub zone-most : (t : Track) (p : Report) (site : Site) → zoneOf t p site ≤ outerDigit
 unfolding zoneOf
-zone-most t p g = go (withinSigmas innerSigmas t p g) (withinOuter t p g)
+zone-most t p site = go (withinSigmas innerSigmas t p site) (withinOuter t p site)
   where
-    go : (a b : Bool) → cond a 3 (cond b 6 0) ≤ 6
+    go : (a b : Bool) → cond a innerDigit (cond b outerDigit 0) ≤ outerDigit
     go true b = omega arith
     go false true = omega arith
     go false false = omega arith
@@ -33,11 +33,11 @@ pub one-unless-most : (b : Bool) → oneUnless b ≤ 1
 one-unless-most true = omega arith
 one-unless-most false = omega arith
 
-pub updates-age-most : (updates : ℕ) → updatesAge updates ≤ 4
+pub updates-age-most : (updates : ℕ) → updatesAge updates ≤ newAge
 unfolding updatesAge
 updates-age-most updates = go (ltb updates growingFrom) (ltb updates matureFrom)
   where
-    go : (a b : Bool) → cond a 4 (cond b 2 0) ≤ 4
+    go : (a b : Bool) → cond a newAge (cond b growingAge 0) ≤ newAge
     go true b = omega arith
     go false true = omega arith
     go false false = omega arith
@@ -63,19 +63,19 @@ quality-most t p = omega (arith, one-unless-most (sureQuality (p .quality)), one
 
 -- ---- the score
 
-pub worth-below : (t : Track) (p : Report) (g : Site) → worthOf t p g < 8 ^ 7
+pub worth-below : (t : Track) (p : Report) (site : Site) → worthOf t p site < digitsEnd
 unfolding worthOf pairPosition dopplerOf ageOf trustOf
-worth-below t p g =
-    omega (arith, zone-most t p g, position-most (rangeOff t p) (azimuthOff t p) (g .«range_sigma») (g .«azimuth_sigma»), one-unless-most (dopplerAgrees t p), updates-age-most (t .updates), one-unless-most (eqb (t .misses) 0), confidence-most t p, quality-most t p)
+worth-below t p site =
+    omega (arith, zone-most t p site, position-most (rangeOff t p) (azimuthOff t p) (site .«range_sigma») (site .«azimuth_sigma»), one-unless-most (dopplerAgrees t p), updates-age-most (t .updates), one-unless-most (eqb (t .misses) 0), confidence-most t p, quality-most t p)
 
 -- every score is below 2,097,152
-pub score-below : (t : Track) (p : Report) (g : Site) (x : ℕ) → scoreOf t p g ≡ Score x → x < 8 ^ 7
+pub score-below : (t : Track) (p : Report) (site : Site) (x : ℕ) → scoreOf t p site ≡ Score x → x < digitsEnd
 unfolding scoreOf
-score-below t p g x e = go (eqb (zoneOf t p g) 0) e
+score-below t p site x e = go (eqb (zoneOf t p site) 0) e
   where
-    go : (b : Bool) → cond b NotAdmissible (Score (worthOf t p g)) ≡ Score x → x < 8 ^ 7
+    go : (b : Bool) → cond b NotAdmissible (Score (worthOf t p site)) ≡ Score x → x < digitsEnd
     go true e = absurd (never e)
       where
         never : NotAdmissible ≡ Score x → ⊥
         never e = let z : _≡_ {A = ℕ} 0 1 = cc in omega arith
-    go false e = let same : worthOf t p g ≡ x = cc in omega (arith, worth-below t p g)
+    go false e = let same : worthOf t p site ≡ x = cc in omega (arith, worth-below t p site)

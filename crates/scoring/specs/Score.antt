@@ -1,5 +1,5 @@
 -- The score of a pair: seven octal digits (01, 'A pair'; 002, radar-only).
-use Prim.Native.Nat.{ℕ, _+_, _*_, _≤_, _<_}
+use Prim.Native.Nat.{ℕ, _+_, _*_, _^_, _≤_, _<_}
 use mathlib.Core.Bool.{Bool, not, cond, _&&_}
 use lib.Dec.{leb, ltb, eqb}
 use lib.IntN.{natAbs}
@@ -24,7 +24,7 @@ pub record Scorable (t : Track) (p : Report) : Type 0 where
 
 -- S of a pair
 unfoldable pub pairPosition : Track → Report → Site → ℕ
-pairPosition t p g = positionOf (rangeOff t p) (azimuthOff t p) (g .«range_sigma») (g .«azimuth_sigma»)
+pairPosition t p site = positionOf (rangeOff t p) (azimuthOff t p) (site .«range_sigma») (site .«azimuth_sigma»)
 
 -- 0 if so, else 1
 abbrev pub oneUnless : Bool → ℕ
@@ -46,8 +46,14 @@ unfoldable pub dopplerOf : Track → Report → ℕ
 dopplerOf t p = oneUnless (dopplerAgrees t p)
 
 -- over 7 updates 0, 4 to 7 gives 2, 3 or fewer 4
+abbrev pub growingAge : ℕ
+growingAge = 2
+
+abbrev pub newAge : ℕ
+newAge = 4
+
 unfoldable pub updatesAge : ℕ → ℕ
-updatesAge updates = cond (ltb updates growingFrom) 4 (cond (ltb updates matureFrom) 2 0)
+updatesAge updates = cond (ltb updates growingFrom) newAge (cond (ltb updates matureFrom) growingAge 0)
 
 -- plus 1 if misses is not 0
 unfoldable pub ageOf : Track → ℕ
@@ -81,9 +87,13 @@ ageWorth = 8
 abbrev pub digitsWorth : (zone position doppler age trust : ℕ) → ℕ
 digitsWorth zone position doppler age trust = zone * zoneWorth + position * positionWorth + doppler * dopplerWorth + age * ageWorth + trust
 
+-- seven octal digits say less than this
+abbrev pub digitsEnd : ℕ
+digitsEnd = 8 ^ 7
+
 -- the worth of an admissible pair
 unfoldable pub worthOf : Track → Report → Site → ℕ
-worthOf t p g = digitsWorth (zoneOf t p g) (pairPosition t p g) (dopplerOf t p) (ageOf t) (trustOf t p)
+worthOf t p site = digitsWorth (zoneOf t p site) (pairPosition t p site) (dopplerOf t p) (ageOf t) (trustOf t p)
 
 unfoldable pub scoreOf : Track → Report → Site → Scored
-scoreOf t p g = cond (eqb (zoneOf t p g) 0) NotAdmissible (Score (worthOf t p g))
+scoreOf t p site = cond (eqb (zoneOf t p site) 0) NotAdmissible (Score (worthOf t p site))

@@ -18,14 +18,20 @@ azimuthOff t p = natAbs (azimuthD t p)
 
 -- |dr| at most so many range sigmas, and |da| at most so many azimuth sigmas
 unfoldable pub withinSigmas : ℕ → Track → Report → Site → Bool
-withinSigmas n t p g = leb (rangeOff t p) (n * g .«range_sigma») && leb (azimuthOff t p) (n * g .«azimuth_sigma»)
+withinSigmas n t p site = leb (rangeOff t p) (n * site .«range_sigma») && leb (azimuthOff t p) (n * site .«azimuth_sigma»)
 
 abbrev pub innerSigmas : ℕ
 innerSigmas = 4
 
--- 8 + 4 x misses
+-- 8 + 4 x misses: those of a track with no misses, and what each miss adds
+abbrev pub steadySigmas : ℕ
+steadySigmas = 8
+
+abbrev pub missSigmas : ℕ
+missSigmas = 4
+
 abbrev pub outerSigmas : Track → ℕ
-outerSigmas t = 8 + 4 * t .misses
+outerSigmas t = steadySigmas + missSigmas * t .misses
 
 -- how far 600 knots reach across in a scan, in azimuth units at range 1
 abbrev pub crossReach : ℕ
@@ -40,7 +46,7 @@ unfoldable pub withinReach : Track → Report → Bool
 withinReach t p = leb (rangeOff t p) rangeSpeedMost && leb (azimuthOff t p) (azimuthReach (t .range))
 
 unfoldable pub withinOuter : Track → Report → Site → Bool
-withinOuter t p g = cond (ltb updatesAtStart (t .updates)) (withinSigmas (outerSigmas t) t p g) (withinReach t p)
+withinOuter t p site = cond (ltb updatesAtStart (t .updates)) (withinSigmas (outerSigmas t) t p site) (withinReach t p)
 
 -- the zone's digit: inner (tested first) 3, outer 6; 0 for a pair that is not admissible
 abbrev pub innerDigit : ℕ
@@ -50,4 +56,4 @@ abbrev pub outerDigit : ℕ
 outerDigit = 6
 
 unfoldable pub zoneOf : Track → Report → Site → ℕ
-zoneOf t p g = cond (withinSigmas innerSigmas t p g) innerDigit (cond (withinOuter t p g) outerDigit 0)
+zoneOf t p site = cond (withinSigmas innerSigmas t p site) innerDigit (cond (withinOuter t p site) outerDigit 0)

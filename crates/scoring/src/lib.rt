@@ -8,12 +8,17 @@ ghost use Rattle.numbers.specs.Scales.{rangeMost, halfTurn, rangeSpeedMost};
 ghost use Rattle.scoring.specs.Zone.{rangeOff, azimuthOff, withinSigmas, outerSigmas, azimuthReach, withinReach, withinOuter, zoneOf};
 ghost use Rattle.scoring.specs.Position.{square as Position·square, positionMost, positionOf};
 ghost use Rattle.scoring.specs.Score.{Scorable, oneUnless, dopplerNear, dopplerAgrees, updatesAge, ageOf, confidenceTrust, qualityTrust, trustOf};
-ghost use Rattle.scoring.specs.Score.{digitsWorth, scoreOf};
+ghost use Rattle.scoring.specs.Score.{digitsWorth, digitsEnd, scoreOf};
 use records::Report;
 use records::Site;
 use records::Track;
 
 const INNER_SIGMAS: u32 = 4;
+
+// The outer zone's sigmas: of a track with no misses, and what each miss adds.
+const STEADY_SIGMAS: u32 = 8;
+
+const MISS_SIGMAS: u32 = 4;
 
 const INNER_DIGIT: u32 = 3;
 
@@ -23,7 +28,15 @@ const CROSS_REACH: u32 = 8_552_910;
 
 const POSITION_MOST: u64 = 511;
 
+// The position counts quarter sigmas to the nearest, so that its rule compares squares of eighths.
+const EIGHTHS_SQUARED: u64 = 64;
+
 const DOPPLER_TOLERANCE: u64 = 12;
+
+// The age's digit, but for the misses; that of a mature track is 0.
+const NEW_AGE: u32 = 4;
+
+const GROWING_AGE: u32 = 2;
 
 // What a digit of the score is worth: of the zone, the position (three digits), the Doppler, the age.
 pub const ZONE_WORTH: u32 = 262_144;
@@ -61,19 +74,19 @@ fn by_sigma(x: u64, sigma: u8) -> u64
 }
 
 // Range first: it is the cheaper of the two.
-fn within_sigmas(n: u32, t: Track, p: Report, g: Site) -> bool
-    ensures { λ r. ⌜ r ≡ withinSigmas n t p g ⌝ }
+fn within_sigmas(n: u32, t: Track, p: Report, site: Site) -> bool
+    ensures { λ r. ⌜ r ≡ withinSigmas n t p site ⌝ }
 {
-    if by_sigma(n as u64, g.range_sigma) < range_off(t, p) {
+    if by_sigma(n as u64, site.range_sigma) < range_off(t, p) {
         return false;
     }
-    azimuth_off(t, p) <= by_sigma(n as u64, g.azimuth_sigma)
+    azimuth_off(t, p) <= by_sigma(n as u64, site.azimuth_sigma)
 }
 
 fn outer_sigmas(t: Track) -> u32
     ensures { λ r. ⌜ r ≡ outerSigmas t ⌝ }
 {
-    8 + 4 * (t.misses as u32)
+    STEADY_SIGMAS + MISS_SIGMAS * (t.misses as u32)
 }
 
 // How far across a track of one update may have gone.
@@ -98,23 +111,23 @@ fn within_reach(t: Track, p: Report) -> bool
     azimuth_off(t, p) <= azimuth_reach(t.range)
 }
 
-fn within_outer(t: Track, p: Report, g: Site) -> bool
-    ensures { λ r. ⌜ r ≡ withinOuter t p g ⌝ }
+fn within_outer(t: Track, p: Report, site: Site) -> bool
+    ensures { λ r. ⌜ r ≡ withinOuter t p site ⌝ }
 {
     if records::UPDATES_AT_START < t.updates {
-        return within_sigmas(outer_sigmas(t), t, p, g);
+        return within_sigmas(outer_sigmas(t), t, p, site);
     }
     within_reach(t, p)
 }
 
 // The zone's digit, 0 for a pair that is not admissible.
-fn zone(t: Track, p: Report, g: Site) -> u32
-    ensures { λ r. ⌜ r ≡ zoneOf t p g ⌝ }
+fn zone(t: Track, p: Report, site: Site) -> u32
+    ensures { λ r. ⌜ r ≡ zoneOf t p site ⌝ }
 {
-    if within_sigmas(INNER_SIGMAS, t, p, g) {
+    if within_sigmas(INNER_SIGMAS, t, p, site) {
         return INNER_DIGIT;
     }
-    if within_outer(t, p, g) {
+    if within_outer(t, p, site) {
         return OUTER_DIGIT;
     }
     0
@@ -150,7 +163,8 @@ pub fn position_number(dr: u64, da: u64, range_sigma: u8, azimuth_sigma: u8) -> 
     ensures { λ r. ⌜ r ≡ positionOf dr da «range_sigma» «azimuth_sigma» ⌝ }
 {
     let sigmas = square(by_sigma(range_sigma as u64, azimuth_sigma));
-    let off = 64 * (square(by_sigma(dr, azimuth_sigma)) + square(by_sigma(da, range_sigma)));
+    let off = EIGHTHS_SQUARED
+        * (square(by_sigma(dr, azimuth_sigma)) + square(by_sigma(da, range_sigma)));
     let mut low: u64 = 0;
     let mut width: u64 = POSITION_MOST + 1;
     while 1 < width {
@@ -195,10 +209,10 @@ fn updates_age(updates: u8) -> u32
     ensures { λ r. ⌜ r ≡ updatesAge updates ⌝ }
 {
     if updates < records::GROWING_FROM {
-        return 4;
+        return NEW_AGE;
     }
     if updates < records::MATURE_FROM {
-        return 2;
+        return GROWING_AGE;
     }
     0
 }
@@ -230,7 +244,7 @@ fn trust(t: Track, p: Report) -> u32
 }
 
 fn worth(zone: u32, position: u32, doppler: u32, age: u32, trust: u32) -> u32
-    requires { ⌜ digitsWorth zone position doppler age trust < 8 ^ 7 ⌝ }
+    requires { ⌜ digitsWorth zone position doppler age trust < digitsEnd ⌝ }
     ensures { λ r. ⌜ r ≡ digitsWorth zone position doppler age trust ⌝ }
 {
     zone * ZONE_WORTH
@@ -241,19 +255,19 @@ fn worth(zone: u32, position: u32, doppler: u32, age: u32, trust: u32) -> u32
 }
 
 // The position number, which costs most, is computed for admissible pairs only.
-pub fn score(t: Track, p: Report, g: Site) -> Scored
+pub fn score(t: Track, p: Report, site: Site) -> Scored
     requires { ⌜ Scorable t p ⌝ }
-    ensures { λ r. ⌜ r ≡ scoreOf t p g ⌝ }
+    ensures { λ r. ⌜ r ≡ scoreOf t p site ⌝ }
 {
-    let zone = zone(t, p, g);
+    let zone = zone(t, p, site);
     if zone == 0 {
         return Scored::NotAdmissible;
     }
     let position = position_number(
         range_off(t, p),
         azimuth_off(t, p),
-        g.range_sigma,
-        g.azimuth_sigma,
+        site.range_sigma,
+        site.azimuth_sigma,
     );
     let doppler = one_unless(doppler_agrees(t, p));
     Scored::Score(worth(zone, position, doppler, age(t), trust(t, p)))

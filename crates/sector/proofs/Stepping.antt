@@ -11,7 +11,7 @@ use Rattle.scoresheet.specs.Cells.{tracksOf, reportsOf, sectorSheet}
 use Rattle.scoresheet.proofs.Due.{due-lies}
 use Rattle.scoresheet.proofs.SheetLaws.{cells-length, sheet-in-range}
 use Rattle.walk.specs.Table.{settledTable, slotPrices, coastedCount, droppedCount}
-use Rattle.walk.specs.Counting.{Settles}
+use Rattle.walk.specs.Ready.{Settles}
 use Rattle.fates.specs.Fates.{handed, Tellable, startedTable, fatesOf, slotsOf, shownOf}
 use Rattle.fates.proofs.Answers.{fates-taken}
 use Rattle.sector.specs.declared.Counts.{Counts}
@@ -38,7 +38,7 @@ module _ (i : Input) (due sheet P u : List ℕ) (r : Ready i) (p : PairedUp i du
   pub settles : (prices : List ℕ) → length (i .table) ≤ length prices → Settles i due P u prices
   unfolding tracksOf sectorSheet reportsOf
   settles prices h = record {
-    names = record { places = le-of-eq (sym (p .number-each)); there = p .valid .there };
+    names = record { number-each = le-of-eq (sym (p .number-each)); there = p .valid .there };
     due-is = p .due-is;
     priced = le-of-eq (sym (p .price-each));
     room = h;
@@ -54,7 +54,7 @@ module _ (i : Input) (due sheet P u : List ℕ) (r : Ready i) (p : PairedUp i du
     few-slots = rw h (r .few-slots);
     few-reports = r .few-reports;
     sector-in = r .sector-in;
-    entry-each = p .number-each ∙ ap length (sym (p .due-is));
+    number-each = p .number-each ∙ ap length (sym (p .due-is));
     due-lies = rw (h, p .due-is) (due-lies i);
   }
 

@@ -14,7 +14,7 @@ ghost use Rattle.matching.specs.Pairing.{scoreEnd, sheetOf, scoreOr, scoreSum};
 ghost use Rattle.sector.specs.Sum.{Summable};
 use matching::index;
 use records::Site;
-use walk::Missed;
+use walk::MissedCounts;
 
 // A cell for each pair of the largest sector.
 const MOST_CELLS: usize = intake::MOST_DUE * intake::MOST_BATCH;
@@ -62,7 +62,7 @@ fn score_sum(sheet: &[u32], reports: usize, pairing: &[u32]) -> u32
 }
 
 // The counts of the answer.
-fn count_all(fates: &[u8], reports: usize, missed: Missed, scores: u32) -> Counts
+fn count_all(fates: &[u8], reports: usize, missed: MissedCounts, scores: u32) -> Counts
     requires { ⌜ (reports ≤ length (now fates)) × (reports ≤ mostBatch) ⌝ }
     ensures { λ r. ⌜ r ≡ tally (take reports (now (fates .entry))) (missed .coasted) (missed .dropped) scores ⌝ }
 {

@@ -15,7 +15,7 @@ use Rattle.records.specs.declared.Track.{Track}
 use Rattle.records.specs.declared.Report.{Report}
 use Rattle.records.specs.Fields.{allowance, WellFormed, Sound}
 use Rattle.records.specs.Bytes.{waitAt, bytesOf}
-use Rattle.settling.specs.declared.Unpaired.the-variants.{Coasts, Dropped}
+use Rattle.settling.specs.declared.Missed.the-variants.{Coasts, Dropped}
 use Rattle.settling.specs.Settle.{Settleable, updatesMost, newSpeed, rangeAhead, azimuthAhead, updatedRange, updatedAzimuth, updatedRangeSpeed, updatedAzimuthSpeed, updatedOf, coastedOf, withoutPair, startedOf, agedOf}
 use Rattle.settling.proofs.Waits.{waits, wait-is, wait-latest}
 

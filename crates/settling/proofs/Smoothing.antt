@@ -39,9 +39,9 @@ minus-neg a (suc b) = refl
 
 -- what is smoothed, not held yet, is a range
 record Lands (predicted reported a : ℕ) : Type 0 where
-  place : ℕ
-  within : place ≤ rangeMost
-  is-place : pos predicted -ℤ correction (pos predicted -ℤ pos reported) a ≡ pos place
+  smoothed : ℕ
+  within : smoothed ≤ rangeMost
+  is-smoothed : pos predicted -ℤ correction (pos predicted -ℤ pos reported) a ≡ pos smoothed
 
 lands : (predicted reported a : ℕ) → predicted ≤ rangeMost → reported ≤ rangeMost → a ≤ tenths → Lands predicted reported a
 lands predicted reported a hp hr ha = go (decLt predicted reported)
@@ -51,17 +51,17 @@ lands predicted reported a hp hr ha = go (decLt predicted reported)
         let n : ℕ = reported - suc predicted in
         let e : reported - predicted ≡ suc (reported - suc predicted) = omega arith in
         record {
-          place = predicted + drawn (suc n) a;
+          smoothed = predicted + drawn (suc n) a;
           within = omega (arith, drawn-within (suc n) a ha);
-          is-place = rw (minus-less predicted reported h, e, drawn-forward n a, minus-neg predicted (drawn (suc n) a));
+          is-smoothed = rw (minus-less predicted reported h, e, drawn-forward n a, minus-neg predicted (drawn (suc n) a));
         }
     go (no h) =
         let n : ℕ = predicted - reported in
         let l : drawn n a ≤ predicted = omega (arith, drawn-within n a ha) in
         record {
-          place = predicted - drawn n a;
+          smoothed = predicted - drawn n a;
           within = omega arith;
-          is-place = rw (minus-more predicted reported (omega arith), drawn-back n a, minus-more predicted (drawn n a) l);
+          is-smoothed = rw (minus-more predicted reported (omega arith), drawn-back n a, minus-more predicted (drawn n a) l);
         }
 
 pub smoothed-lies : (predicted a : ℕ) (D : ℤ) → smoothedRange predicted D a ≤ rangeMost
@@ -73,4 +73,4 @@ pub smoothed-in-range : (predicted reported a : ℕ) → predicted ≤ rangeMost
 unfolding smoothedRange
 smoothed-in-range predicted reported a hp hr ha =
     let l = lands predicted reported a hp hr ha in
-    rw (l .is-place) (ap pos (from-zero-same rangeMost (l .place) (l .within)))
+    rw (l .is-smoothed) (ap pos (from-zero-same rangeMost (l .smoothed) (l .within)))

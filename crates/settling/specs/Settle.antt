@@ -10,8 +10,8 @@ use Rattle.numbers.specs.Sectors.{sectorOf, callsAhead}
 use Rattle.records.specs.declared.Track.{Track}
 use Rattle.records.specs.declared.Report.{Report}
 use Rattle.records.specs.Fields.{held, updatesAtStart, allowance, rangeD, azimuthD}
-use Rattle.settling.specs.declared.Unpaired.{Unpaired}
-use Rattle.settling.specs.declared.Unpaired.the-variants.{Coasts, Dropped}
+use Rattle.settling.specs.declared.Missed.{Missed}
+use Rattle.settling.specs.declared.Missed.the-variants.{Coasts, Dropped}
 use Rattle.settling.specs.Gains.{tenths, gainA, gainB}
 
 -- ---- what a step asks of a track: a well-formed one has it
@@ -106,7 +106,7 @@ coastedOf t s = record {
 }
 
 -- if misses + 1 exceeds the allowance it is dropped
-unfoldable pub withoutPair : Track → ℕ → Unpaired
+unfoldable pub withoutPair : Track → ℕ → Missed
 withoutPair t s = cond (ltb (allowance (t .updates)) (t .misses + 1)) Dropped (Coasts (coastedOf t s))
 
 -- ---- a report that starts a track

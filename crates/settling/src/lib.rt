@@ -39,8 +39,8 @@ const DEGRADED_B: u32 = 3;
 
 const UPDATES_MOST: u8 = 255;
 
-// What becomes of a due track without a pair.
-pub enum Unpaired {
+// What becomes of a track that is missed: due, and without a pair.
+pub enum Missed {
     Coasts(Track),
     Dropped,
 }
@@ -197,18 +197,18 @@ pub fn updated(t: Track, p: Report, s: u8) -> Track
 }
 
 // A due track without a pair, in sector s: dropped where one more miss exceeds its allowance.
-pub fn without_pair(t: Track, s: u8) -> Unpaired
+pub fn without_pair(t: Track, s: u8) -> Missed
     requires { ⌜ Settleable t ⌝ }
     requires { ⌜ s < sectors ⌝ }
     ensures { λ r. ⌜ r ≡ withoutPair t s ⌝ }
 {
     if records::allowed_misses(t.updates) <= t.misses {
-        return Unpaired::Dropped;
+        return Missed::Dropped;
     }
     let range_speed = t.range_speed;
     let azimuth_speed = t.azimuth_speed;
     let azimuth = azimuth_ahead(t.azimuth, azimuth_speed);
-    Unpaired::Coasts(Track {
+    Missed::Coasts(Track {
         range: range_ahead(t.range, range_speed),
         azimuth,
         range_speed,

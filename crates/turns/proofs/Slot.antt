@@ -15,18 +15,19 @@ use Rattle.numbers.proofs.SectorLaws.{ahead-soonest}
 use Rattle.records.specs.declared.Track.{Track}
 use Rattle.records.specs.Fields.{free, held, WellFormed}
 use Rattle.laws.specs.Lists.{at}
-use Rattle.records.specs.Bytes.{slotBytes, waitAt, markAt, trackOf, bytesOf, reportOf, slotDue}
+use Rattle.records.specs.Bytes.{freed, slotBytes, waitAt, markAt, trackOf, bytesOf, reportOf, slotDue}
 use Rattle.records.proofs.Checked.{slot-well-formed, sound}
 use Rattle.records.proofs.RoundTrips.{Bytes}
-use Rattle.settling.specs.declared.Unpaired.{Unpaired}
-use Rattle.settling.specs.declared.Unpaired.the-variants.{Coasts, Dropped}
+use Rattle.settling.specs.declared.Missed.{Missed}
+use Rattle.settling.specs.declared.Missed.the-variants.{Coasts, Dropped}
 use Rattle.settling.specs.Settle.{withoutPair, agedOf}
 use Rattle.settling.proofs.HandedOn.{ServedTrack, updated-served, coasted-served, started-served}
 use Rattle.matching.specs.Pairing.{none}
 use Rattle.intake.specs.Refusals.{Input, Ready}
-use Rattle.walk.specs.Table.{freed, pairedSlot, missedSlot, agedSlot, settledSlot, settledTable}
-use Rattle.walk.specs.Counting.{SlotSettles}
-use Rattle.walk.proofs.Slots.{due-track, waits-on, aged-byte, missed-kept, missed-dropped}
+use Rattle.walk.specs.Table.{pairedSlot, missedSlot, agedSlot, settledSlot, settledTable}
+use Rattle.walk.specs.Ready.{SlotSettles}
+use Rattle.scoresheet.proofs.Due.{due-track}
+use Rattle.walk.proofs.Slots.{waits-on, aged-byte, missed-kept, missed-dropped}
 use Rattle.walk.proofs.Settled.{rankOf, track-mark, settled-at, settles-at}
 use Rattle.fates.specs.Fates.{Handed, isFree, freeSlot, afterReport, reportNumbers, startedTable}
 use Rattle.laws.proofs.Rounds.{all-keep}
@@ -103,7 +104,7 @@ freed-free = refl
 fresh-missed : (s : ℕ) (slot : List ℕ) → s < sectors → WellFormed (trackOf slot) s → JustServed s (missedSlot s slot)
 fresh-missed s slot h w = go (withoutPair (trackOf slot) s) refl
   where
-    go : (u : Unpaired) → withoutPair (trackOf slot) s ≡ u → JustServed s (missedSlot s slot)
+    go : (u : Missed) → withoutPair (trackOf slot) s ≡ u → JustServed s (missedSlot s slot)
     go (Coasts t) e = rw (missed-kept s slot t e) (fresh-bytes (coasted-served (trackOf slot) t s h w e))
     go Dropped e = rw (missed-dropped s slot e) (fresh-free s freed freed-free)
 

@@ -21,7 +21,7 @@ use Rattle.intake.specs.Refusals.{Input, mostSlots, slotBad, noneOf, demands, n
 use Rattle.intake.proofs.Readiness.{ready, fault-means, not-refused}
 use Rattle.scoresheet.specs.Cells.{cellsOf, tracksOf, reportsOf}
 use Rattle.walk.specs.Table.{settledTable}
-use Rattle.walk.specs.Counting.{Names}
+use Rattle.walk.specs.Ready.{Names}
 use Rattle.walk.proofs.Settled.{settled-length, settled-good}
 use Rattle.fates.proofs.Starts.{AllGood, GoodReports, started-length, started-good}
 use Rattle.sector.specs.declared.Served.{Served}
@@ -36,7 +36,7 @@ pub names : {i : Input} {c : Chosen} → Choice i c → Names i (c .pairing)
 unfolding tracksOf reportsOf
 names {i} {c} q =
     let z = zero-certificate (tracksOf i) (reportsOf i) (cellsOf i) (c .pairing) (c .prices) (c .discounts) (q .accepted) in
-    record { places = le-of-eq (sym (q .number-each)); there = z .1 .valid .there }
+    record { number-each = le-of-eq (sym (q .number-each)); there = z .1 .valid .there }
 
 -- the reports of a batch that is not refused; an azimuth that lies in a sector lies in the turn
 pub good-reports : {i : Input} → Ready i → GoodReports (reportsIn i)

@@ -12,7 +12,7 @@ use Rattle.records.specs.Bytes.{markAt, trackOf, bytesOf, reportOf, slotDue}
 use Rattle.settling.specs.Settle.{updatedOf, coastedOf, startedOf}
 use Rattle.matching.specs.Pairing.{none, HasReport}
 use Rattle.intake.specs.Refusals.{Input}
-use Rattle.scoresheet.specs.Cells.{tracksOf, reportsOf}
+use Rattle.scoresheet.specs.Cells.{tracksOf, reportsOf, dueSlot, dueTrack}
 use Rattle.scoresheet.proofs.Due.{due-lies, due-is-due}
 use Rattle.walk.specs.Table.{agedSlot, settledTable}
 use Rattle.walk.proofs.Settled.{rankOf, settled-at}
@@ -39,22 +39,22 @@ module _ {l l′ : Lent} (a : Accepted l l′) where
   P = outcome a .chosen .pairing
 
   -- the slot of a due track, once it holds a track again
-  due-served : (n : ℕ) → n < tracksOf i → (t : Track) → t .mark ≡ held → slotAt l′ (words.slotOfDue i n) ≡ bytesOf t → ServedTo t l l′ (words.slotOfDue i n)
+  due-served : (rank : ℕ) → rank < tracksOf i → (t : Track) → t .mark ≡ held → slotAt l′ (dueSlot i rank) ≡ bytesOf t → ServedTo t l l′ (dueSlot i rank)
   unfolding tracksOf
-  due-served n h t m e = record {
-    served-in = record { lies = due-lies i n h; is-held = rw e (mark-packed t ∙ m); was-due = λ q. due-is-due i n h };
+  due-served rank h t m e = record {
+    served-in = record { lies = due-lies i rank h; is-held = rw e (mark-packed t ∙ m); was-due = λ q. due-is-due i rank h };
     holds = e;
   }
 
   -- A due track with a pair is served, and its slot holds it as its report updates it.
-  pub paired-served-in : (n : ℕ) → n < tracksOf i → HasReport (at P) n → ServedTo (updatedOf (words.dueTrack i n) (reportOf (getD (a .batch) (at P n) [])) (l .sector)) l l′ (words.slotOfDue i n)
+  pub paired-served-in : (rank : ℕ) → rank < tracksOf i → HasReport (at P) rank → ServedTo (updatedOf (dueTrack i rank) (reportOf (getD (a .batch) (at P rank) [])) (l .sector)) l l′ (dueSlot i rank)
   unfolding updatedOf
-  paired-served-in n h p = due-served n h _ refl (paired-slot-after i l l′ counts (outcome a) n h p)
+  paired-served-in rank h p = due-served rank h _ refl (paired-slot-after i l l′ counts (outcome a) rank h p)
 
   -- A due track without a pair that may miss once more is served, and its slot holds it coasted.
-  pub coasted-served-in : (n : ℕ) → n < tracksOf i → at P n ≡ none → words.dueTrack i n .misses + 1 ≤ allowance (words.dueTrack i n .updates) → ServedTo (coastedOf (words.dueTrack i n) (l .sector)) l l′ (words.slotOfDue i n)
+  pub coasted-served-in : (rank : ℕ) → rank < tracksOf i → at P rank ≡ none → dueTrack i rank .misses + 1 ≤ allowance (dueTrack i rank .updates) → ServedTo (coastedOf (dueTrack i rank) (l .sector)) l l′ (dueSlot i rank)
   unfolding coastedOf
-  coasted-served-in n h e m = due-served n h _ refl (coasted-slot-after i l l′ counts (outcome a) n h e m)
+  coasted-served-in rank h e m = due-served rank h _ refl (coasted-slot-after i l l′ counts (outcome a) rank h e m)
 
   -- a slot that pairing left free held no waiting track
   none-waiting : (k : ℕ) → k < length (l .table) → isFree (getD (settledTable i P) k []) ≡ true → at (slotAt l k) markAt ≡ held → slotDue (slotAt l k) ≡ true
@@ -77,7 +77,7 @@ module _ {l l′ : Lent} (a : Accepted l l′) where
     told-paired-served e =
         let o : ownerOf P j < length P = paired-only i P j here (sym (told .fate) ∙ e) in
         let mine : at P (ownerOf P j) ≡ j = owner-has P j o in
-        let k : at (l′ .slots) j ≡ words.slotOfDue i (ownerOf P j) = told .slot ∙ paired-slot i P j here o in
+        let k : at (l′ .slots) j ≡ dueSlot i (ownerOf P j) = told .slot ∙ paired-slot i P j here o in
         let s = paired-served-in (ownerOf P j) (owner-due i (outcome a .chosen) (outcome a .choice) j here o) (named-is-paired i (outcome a .chosen) (outcome a .choice) j here (ownerOf P j) mine) in
         rw k (rw mine at s)
 

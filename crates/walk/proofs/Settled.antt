@@ -15,19 +15,20 @@ use Rattle.laws.proofs.Sums.{sum-add, sum-same}
 use Rattle.numbers.specs.Scales.{sectors}
 use Rattle.numbers.specs.Sectors.{nextSector}
 use Rattle.records.specs.Fields.{free, held, trackFields, reportFields, badReportField, WellFormed}
-use Rattle.records.specs.Bytes.{markAt, trackOf, bytesOf, reportOf, badSlotField, slotDue}
+use Rattle.records.specs.Bytes.{freed, markAt, trackOf, bytesOf, reportOf, badSlotField, slotDue}
 use Rattle.records.proofs.Checked.{free-slot-good, slot-well-formed, sound}
 use Rattle.records.proofs.Packed.{packed-good}
-use Rattle.settling.specs.declared.Unpaired.{Unpaired}
-use Rattle.settling.specs.declared.Unpaired.the-variants.{Coasts, Dropped}
+use Rattle.settling.specs.declared.Missed.{Missed}
+use Rattle.settling.specs.declared.Missed.the-variants.{Coasts, Dropped}
 use Rattle.settling.specs.Settle.{withoutPair, agedOf}
 use Rattle.settling.proofs.HandedOn.{updated-served, coasted-served, aged-well-formed}
 use Rattle.matching.specs.Pairing.{none}
 use Rattle.intake.specs.Refusals.{Input, dueSlots, Ready}
-use Rattle.walk.specs.Table.{freed, pairedSlot, missedSlot, agedSlot, dueRank, settledSlot, slotPrice, settledTable, slotPrices, coastedOne, droppedOne, missedAt, missedSum, coastedCount, droppedCount}
-use Rattle.walk.specs.Counting.{Names, SlotSettles}
+use Rattle.walk.specs.Table.{pairedSlot, missedSlot, agedSlot, dueRank, settledSlot, slotPrice, settledTable, slotPrices, coastedOne, droppedOne, missedAt, missedSum, coastedCount, droppedCount}
+use Rattle.walk.specs.Ready.{Names, SlotSettles}
 use Rattle.laws.proofs.Ranks.{outs-at, ranked}
-use Rattle.walk.proofs.Slots.{due-track, track-waits-on, missed-kept, missed-dropped}
+use Rattle.scoresheet.proofs.Due.{due-track}
+use Rattle.walk.proofs.Slots.{track-waits-on, missed-kept, missed-dropped}
 
 -- the table keeps its number of slots
 pub settled-length : (i : Input) (P : List ℕ) → length (settledTable i P) ≡ length (i .table)
@@ -48,7 +49,7 @@ ranks (x ∷ slots) base s = go (slotDue x) (ranks slots (suc base) (s + cond (s
 abbrev pub rankOf : List (List ℕ) → ℕ → ℕ
 rankOf table k = length (dueSlots (take k table))
 
--- a due slot's rank is the place that the due list has it at
+-- the due list has a due slot at its rank
 pub due-at-rank : (i : Input) (k : ℕ) → k < length (i .table) → slotDue (getD (i .table) k []) ≡ true → (rankOf (i .table) k < length (dueSlots (i .table))) × (getD (dueSlots (i .table)) (rankOf (i .table) k) 0 ≡ k)
 unfolding dueSlots
 due-at-rank i k h d = let w = ranked slotDue 0 (i .table) k [] h d in (w .lies, w .names ∙ zero-add k)
@@ -84,7 +85,7 @@ paired-good s report slot h e = packed-good _ (nextSector s) (updated-served (tr
 missed-good : (s : ℕ) (slot : List ℕ) → s < sectors → WellFormed (trackOf slot) s → badSlotField (missedSlot s slot) (nextSector s) ≡ trackFields
 missed-good s slot h w = go (withoutPair (trackOf slot) s) refl
   where
-    go : (u : Unpaired) → withoutPair (trackOf slot) s ≡ u → badSlotField (missedSlot s slot) (nextSector s) ≡ trackFields
+    go : (u : Missed) → withoutPair (trackOf slot) s ≡ u → badSlotField (missedSlot s slot) (nextSector s) ≡ trackFields
     go (Coasts t) e = rw (missed-kept s slot t e) (packed-good t (nextSector s) (coasted-served (trackOf slot) t s h w e .well))
     go Dropped e = rw (missed-dropped s slot e) (freed-slot-good (nextSector s))
 
@@ -120,7 +121,7 @@ settles-at i P r q k h =
       sector-in = r .sector-in;
       slot-good = r .slots-good k h;
       reports-good = r .reports-good;
-      place = λ d. omega (arith, lies d, q .places);
+      ranked = λ d. omega (arith, lies d, q .number-each);
       there = λ d n. q .there _ (lies d) n;
     }
 
@@ -136,7 +137,7 @@ sum-ones zero = refl
 sum-ones (suc n) = omega (arith, sum-ones n)
 
 -- a due track without a pair coasts or is dropped
-kept-or-dropped : (u : Unpaired) → coastedOne u + droppedOne u ≡ 1
+kept-or-dropped : (u : Missed) → coastedOne u + droppedOne u ≡ 1
 unfolding coastedOne droppedOne
 kept-or-dropped (Coasts t) = refl
 kept-or-dropped Dropped = refl
@@ -146,7 +147,7 @@ pub missed-counts : (i : Input) (n : ℕ) (P : List ℕ) → coastedCount i n P 
 unfolding coastedCount droppedCount missedSum
 missed-counts i n P = sym (sum-add n _ _) ∙ sum-same n _ _ (λ rank l. go (eqb (at P rank) none) (missedAt (i .table) (i .sector) rank))
   where
-    go : (b : Bool) (u : Unpaired) → cond b (coastedOne u) 0 + cond b (droppedOne u) 0 ≡ cond b 1 0
+    go : (b : Bool) (u : Missed) → cond b (coastedOne u) 0 + cond b (droppedOne u) 0 ≡ cond b 1 0
     go true u = kept-or-dropped u
     go false u = refl
 

@@ -1,28 +1,22 @@
 -- What the step of one slot counts on, and its bytes.
 use Prim.Native.Nat.{ℕ, _-_, _<_}
 use mathlib.Core.Path.{_≡_}
-use mathlib.Core.Bool.{true, false}
+use mathlib.Core.Bool.{false}
 use mathlib.Core.List.{List}
 use native.Mathlib.Omega.{arith}
 use borrow.Author.Tests.{eqb-false, eq-eqb}
 use lib.IntN.{natAbs}
 use lib.ListN.{set}
-use Rattle.laws.proofs.Tests.{clash}
 use Rattle.numbers.specs.Scales.{halfTurn}
 use Rattle.records.specs.declared.Track.{Track}
-use Rattle.records.specs.Fields.{held, trackFields, WellFormed}
+use Rattle.records.specs.Fields.{held, WellFormed}
 use Rattle.laws.specs.Lists.{at}
-use Rattle.records.specs.Bytes.{slotBytes, waitAt, markAt, trackOf, bytesOf, badSlotField, slotDue}
-use Rattle.records.proofs.Checked.{free-slot-not-due, slot-well-formed}
+use Rattle.records.specs.Bytes.{freed, slotBytes, waitAt, markAt, trackOf, bytesOf, slotDue}
 use Rattle.records.proofs.RoundTrips.{Bytes, pack-unpack}
-use Rattle.settling.specs.declared.Unpaired.the-variants.{Coasts, Dropped}
+use Rattle.settling.specs.declared.Missed.the-variants.{Coasts, Dropped}
 use Rattle.settling.specs.Settle.{withoutPair}
 use Rattle.settling.proofs.HandedOn.{aged-bytes}
-use Rattle.walk.specs.Table.{freed, unpairedBytes, missedSlot, agedSlot}
-
--- a due slot that is not malformed holds a well-formed track
-pub due-track : (slot : List ℕ) (s : ℕ) → badSlotField slot s ≡ trackFields → slotDue slot ≡ true → WellFormed (trackOf slot) s
-due-track slot s e d = slot-well-formed slot s e (λ f. clash d (free-slot-not-due slot f))
+use Rattle.walk.specs.Table.{missedBytes, missedSlot, agedSlot}
 
 -- a held track that is not due still waits
 pub waits-on : (slot : List ℕ) → slotDue slot ≡ false → at slot markAt ≡ held → 0 < at slot waitAt
@@ -43,11 +37,11 @@ aged-byte slot b e = rw (eq-eqb (at slot markAt) held e, aged-bytes (trackOf slo
 
 -- a due track without a pair, by what becomes of it
 pub missed-kept : (s : ℕ) (slot : List ℕ) (t : Track) → withoutPair (trackOf slot) s ≡ Coasts t → missedSlot s slot ≡ bytesOf t
-unfolding missedSlot unpairedBytes
+unfolding missedSlot missedBytes
 missed-kept s slot t e = rw e
 
 pub missed-dropped : (s : ℕ) (slot : List ℕ) → withoutPair (trackOf slot) s ≡ Dropped → missedSlot s slot ≡ freed
-unfolding missedSlot unpairedBytes
+unfolding missedSlot missedBytes
 missed-dropped s slot e = rw e
 
 -- a well-formed track's speeds fit sixteen bits

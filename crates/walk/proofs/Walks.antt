@@ -14,14 +14,15 @@ use Rattle.laws.proofs.Sums.{sum-none, sum-more, sum-done}
 use Rattle.laws.proofs.Tests.{clash}
 use Rattle.laws.specs.Lists.{at}
 use Rattle.records.specs.Bytes.{trackOf, slotDue}
-use Rattle.settling.specs.declared.Unpaired.{Unpaired}
+use Rattle.settling.specs.declared.Missed.{Missed}
 use Rattle.settling.specs.Settle.{Settleable, withoutPair}
 use Rattle.settling.proofs.HandedOn.{settleable}
 use Rattle.matching.specs.Pairing.{none}
 use Rattle.intake.specs.Refusals.{Input, dueSlots, mostSlots, mostDue, Ready}
-use Rattle.scoresheet.proofs.Due.{dueSlot, due-lies, due-is-due, due-well-formed}
+use Rattle.scoresheet.specs.Cells.{dueSlot}
+use Rattle.scoresheet.proofs.Due.{due-lies, due-is-due, due-well-formed}
 use Rattle.walk.specs.Table.{restedSlot, settledSlot, slotPrice, noPrice, settledTable, slotPrices, coastedOne, droppedOne, missedAt, missedSum}
-use Rattle.walk.specs.Counting.{Settles, SlotSettles, DueSettles, DuePriced}
+use Rattle.walk.specs.Ready.{Settles, SlotSettles, DueSettles, DuePriced}
 use Rattle.walk.proofs.Settled.{rankOf, due-at-rank, settled-length, settled-at, prices-length, price-at}
 
 -- ---- the due slots settled one by one, the others aged
@@ -40,7 +41,7 @@ rested-at table k h = map-at restedSlot table k [] [] h
 -- what the loop over the due slots counts on
 pub due-settles : {i : Input} {due P trackPrices prices : List ℕ} {table : List (List ℕ)} → Ready i → Settles i due P trackPrices prices → table ≡ map restedSlot (i .table) → DueSettles (i .sector) (i .batch) P due table
 due-settles {i} {due} {P} {trackPrices} {prices} {table} r q e = rw (e, q .due-is) (record {
-  places = rw (length-map (i .table) restedSlot) (due-distinct i);
+  distinct = rw (length-map (i .table) restedSlot) (due-distinct i);
   settles = λ rank h.
       let same : getD (map restedSlot (i .table)) (dueSlot i rank) [] ≡ getD (i .table) (dueSlot i rank) [] =
       rested-at (i .table) _ (due-lies i rank h) ∙ rested-due _ (due-is-due i rank h) in
@@ -48,7 +49,7 @@ due-settles {i} {due} {P} {trackPrices} {prices} {table} r q e = rw (e, q .due-i
         sector-in = r .sector-in;
         slot-good = rw same (r .slots-good _ (due-lies i rank h));
         reports-good = r .reports-good;
-        place = λ d. omega (arith, q .names .places);
+        ranked = λ d. omega (arith, q .names .number-each);
         there = λ d n. q .names .there rank h n;
       };
   few = rw (length-map (i .table) restedSlot) (r .few-slots);
@@ -63,10 +64,10 @@ pub record NextSettled (sector : ℕ) (batch : List (List ℕ)) (P due : List �
 
 pub next-settled : {sector : ℕ} {batch : List (List ℕ)} {P due : List ℕ} {was now : List (List ℕ)} {v : ℕ → List ℕ} {rank : ℕ} → DueSettles sector batch P due was → Placed [] due v was now rank → rank < length due → NextSettled sector batch P due was now rank
 next-settled {sector} {batch} {P} {due} {was} {now} {v} {rank} q w h =
-    let e : getD now (getD due rank 0) [] ≡ getD was (getD due rank 0) [] = not-placed [] w h (q .places) in
+    let e : getD now (getD due rank 0) [] ≡ getD was (getD due rank 0) [] = not-placed [] w h (q .distinct) in
     record {
-      within = omega (arith, q .places .within rank h, w .same);
-      early = omega (arith, q .places .within rank h, q .few);
+      within = omega (arith, q .distinct .within rank h, w .same);
+      early = omega (arith, q .distinct .within rank h, q .few);
       same = e;
       settles = rw e (q .settles rank h);
     }
@@ -74,15 +75,15 @@ next-settled {sector} {batch} {P} {due} {was} {now} {v} {rank} q w h =
 pub due-priced : {i : Input} {due P trackPrices prices : List ℕ} → Ready i → Settles i due P trackPrices prices → DuePriced due trackPrices (take (length (i .table)) prices)
 due-priced {i} {due} {P} {trackPrices} {prices} r q =
     let l : length (take (length (i .table)) prices) ≡ length (i .table) = length-take-le _ prices (q .room) in
-    rw (q .due-is) (record { places = rw l (due-distinct i); priced = q .priced; few = rw l (r .few-slots) })
+    rw (q .due-is) (record { distinct = rw l (due-distinct i); priced = q .priced; few = rw l (r .few-slots) })
 
 -- prices that are cleared have as much room
 pub still-priced : {due trackPrices prices cleared : List ℕ} → cleared ≡ map noPrice prices → DuePriced due trackPrices prices → DuePriced due trackPrices cleared
 still-priced {due} {trackPrices} {prices} {cleared} e w =
     let l : length cleared ≡ length prices = rw e (length-map prices noPrice) in
-    record { places = rw l (w .places); priced = w .priced; few = rw l (w .few) }
+    record { distinct = rw l (w .distinct); priced = w .priced; few = rw l (w .few) }
 
--- a slot that no place of the due list names is not due
+-- a slot that no entry of the due list names is not due
 module _ (i : Input) where
   not-named : (k : ℕ) → slotDue (getD (i .table) k []) ≡ false → (rank : ℕ) → rank < length (dueSlots (i .table)) → dueSlot i rank ≡ k → ⊥
   not-named k f rank h e = clash (rw e at (due-is-due i rank h)) f
@@ -117,46 +118,46 @@ module _ (i : Input) where
           go true d = let r = due-at-rank i k h d in rw d (rw (r .1) at (w .there (rankOf (i .table) k) (r .0)))
           go false f = w .else k (not-named k f) ∙ map-at noPrice blank k 0 0 (omega arith) ∙ rw f
 
--- ---- the loop over the due list: i of its tracks are looked at
+-- ---- the loop over the due list: the tracks of the ranks below rank are looked at
 
-pub record MissedSoFar (table : List (List ℕ)) (sector : ℕ) (due P : List ℕ) (coasted dropped i : ℕ) : Type 0 where
-  pub upto : i ≤ length due
-  pub coasts : coasted ≡ missedSum coastedOne table sector i P
-  pub drops : dropped ≡ missedSum droppedOne table sector i P
-  pub few : (coasted ≤ i) × (dropped ≤ i)
+pub record MissedSoFar (table : List (List ℕ)) (sector : ℕ) (due P : List ℕ) (coasted dropped rank : ℕ) : Type 0 where
+  pub upto : rank ≤ length due
+  pub coasts : coasted ≡ missedSum coastedOne table sector rank P
+  pub drops : dropped ≡ missedSum droppedOne table sector rank P
+  pub few : (coasted ≤ rank) × (dropped ≤ rank)
 
 pub missed-none : (table : List (List ℕ)) (sector : ℕ) (due P : List ℕ) → MissedSoFar table sector due P 0 0 0
 unfolding missedSum
 missed-none table sector due P = record { upto = omega arith; coasts = sum-none _; drops = sum-none _; few = (omega arith, omega arith) }
 
--- what one place adds to a sum
-abbrev Adds : (Unpaired → ℕ) → (table : List (List ℕ)) (sector : ℕ) (due P : List ℕ) (i x : ℕ) → Type 0
-Adds one table sector due P i x = (x ≡ cond (eqb (at P i) none) (one (withoutPair (trackOf (getD table (getD due i 0) [])) sector)) 0) × (x ≤ 1)
+-- what one rank adds to a sum
+abbrev Adds : (Missed → ℕ) → (table : List (List ℕ)) (sector : ℕ) (due P : List ℕ) (rank x : ℕ) → Type 0
+Adds one table sector due P rank x = (x ≡ cond (eqb (at P rank) none) (one (withoutPair (trackOf (getD table (getD due rank 0) [])) sector)) 0) × (x ≤ 1)
 
-pub missed-more : {table : List (List ℕ)} {sector : ℕ} {due P : List ℕ} {coasted dropped i x y : ℕ} → MissedSoFar table sector due P coasted dropped i → i < length due → due ≡ dueSlots table → Adds coastedOne table sector due P i x → Adds droppedOne table sector due P i y → MissedSoFar table sector due P (coasted + x) (dropped + y) (i + 1)
+pub missed-more : {table : List (List ℕ)} {sector : ℕ} {due P : List ℕ} {coasted dropped rank x y : ℕ} → MissedSoFar table sector due P coasted dropped rank → rank < length due → due ≡ dueSlots table → Adds coastedOne table sector due P rank x → Adds droppedOne table sector due P rank y → MissedSoFar table sector due P (coasted + x) (dropped + y) (rank + 1)
 unfolding missedSum missedAt
-missed-more {table} {sector} {due} {P} {coasted} {dropped} {i} {x} {y} w h d p q = record {
+missed-more {table} {sector} {due} {P} {coasted} {dropped} {rank} {x} {y} w h d p q = record {
   upto = omega arith;
-  coasts = sum-more i coasted x _ (w .coasts) (rw d at (p .0));
-  drops = sum-more i dropped y _ (w .drops) (rw d at (q .0));
+  coasts = sum-more rank coasted x _ (w .coasts) (rw d at (p .0));
+  drops = sum-more rank dropped y _ (w .drops) (rw d at (q .0));
   few = (omega (arith, w .few .0, p .1), omega (arith, w .few .1, q .1));
 }
 
-pub missed-end : {table : List (List ℕ)} {sector : ℕ} {due P : List ℕ} {coasted dropped i : ℕ} → MissedSoFar table sector due P coasted dropped i → length due ≤ i → (coasted ≡ missedSum coastedOne table sector (length due) P) × (dropped ≡ missedSum droppedOne table sector (length due) P)
+pub missed-end : {table : List (List ℕ)} {sector : ℕ} {due P : List ℕ} {coasted dropped rank : ℕ} → MissedSoFar table sector due P coasted dropped rank → length due ≤ rank → (coasted ≡ missedSum coastedOne table sector (length due) P) × (dropped ≡ missedSum droppedOne table sector (length due) P)
 unfolding missedSum
-missed-end {table} {sector} {due} {P} {coasted} {dropped} {i} w h =
-    (sum-done i (length due) coasted _ (w .upto) h (w .coasts), sum-done i (length due) dropped _ (w .upto) h (w .drops))
+missed-end {table} {sector} {due} {P} {coasted} {dropped} {rank} w h =
+    (sum-done rank (length due) coasted _ (w .upto) h (w .coasts), sum-done rank (length due) dropped _ (w .upto) h (w .drops))
 
--- the slot of the i-th due track is there, and its track can be settled
-pub record NextDue (I : Input) (due : List ℕ) (i : ℕ) : Type 0 where
-  pub there : getD due i 0 < length (I .table)
-  pub track : Settleable (trackOf (getD (I .table) (getD due i 0) []))
-  pub early : getD due i 0 < mostSlots
-  pub few : i < mostDue
+-- the slot of the due track of a rank is there, and its track can be settled
+pub record NextDue (i : Input) (due : List ℕ) (rank : ℕ) : Type 0 where
+  pub there : getD due rank 0 < length (i .table)
+  pub track : Settleable (trackOf (getD (i .table) (getD due rank 0) []))
+  pub early : getD due rank 0 < mostSlots
+  pub few : rank < mostDue
 
-pub next-due : {I : Input} {due : List ℕ} {i : ℕ} → Ready I → due ≡ dueSlots (I .table) → i < length due → NextDue I due i
-next-due {I} {due} {i} r d h =
-    let n : i < length (dueSlots (I .table)) = rw d at h in
-    let s : getD due i 0 ≡ getD (dueSlots (I .table)) i 0 = rw d in
-    let l : getD due i 0 < length (I .table) = rw s (due-lies I i n) in
-    record { there = l; track = rw s (settleable (due-well-formed I i r n)); early = omega (arith, r .few-slots); few = omega (arith, r .few-due) }
+pub next-due : {i : Input} {due : List ℕ} {rank : ℕ} → Ready i → due ≡ dueSlots (i .table) → rank < length due → NextDue i due rank
+next-due {i} {due} {rank} r d h =
+    let n : rank < length (dueSlots (i .table)) = rw d at h in
+    let s : getD due rank 0 ≡ getD (dueSlots (i .table)) rank 0 = rw d in
+    let l : getD due rank 0 < length (i .table) = rw s (due-lies i rank n) in
+    record { there = l; track = rw s (settleable (due-well-formed i rank r n)); early = omega (arith, r .few-slots); few = omega (arith, r .few-due) }

@@ -1,3 +1,3 @@
 -- The table after pairing.
 pub mod Table
-pub mod Counting
+pub mod Ready

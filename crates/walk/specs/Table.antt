@@ -3,32 +3,28 @@ use Prim.Native.Nat.{ℕ, _+_}
 use mathlib.Core.Bool.{cond}
 use mathlib.Core.List.{List, []}
 use lib.Dec.{eqb}
-use lib.ListN.{getD, replicate}
+use lib.ListN.{getD}
 use Rattle.laws.specs.Lists.{at, outs}
 use Rattle.laws.specs.Sums.{Sum}
 use Rattle.records.specs.Fields.{held}
-use Rattle.records.specs.Bytes.{slotBytes, markAt, trackOf, bytesOf, reportOf, slotDue}
-use Rattle.settling.specs.declared.Unpaired.{Unpaired}
-use Rattle.settling.specs.declared.Unpaired.the-variants.{Coasts, Dropped}
+use Rattle.records.specs.Bytes.{freed, markAt, trackOf, bytesOf, reportOf, slotDue}
+use Rattle.settling.specs.declared.Missed.{Missed}
+use Rattle.settling.specs.declared.Missed.the-variants.{Coasts, Dropped}
 use Rattle.settling.specs.Settle.{updatedOf, withoutPair, agedOf}
 use Rattle.matching.specs.Pairing.{none}
 use Rattle.intake.specs.Refusals.{Input, dueSlots}
-
--- a slot that is freed is all zero
-unfoldable pub freed : List ℕ
-freed = replicate slotBytes 0
 
 -- a due track with a pair
 unfoldable pub pairedSlot : (sector : ℕ) (report slot : List ℕ) → List ℕ
 pairedSlot sector report slot = bytesOf (updatedOf (trackOf slot) (reportOf report) sector)
 
--- a due track without a pair
-unfoldable pub unpairedBytes : Unpaired → List ℕ
-unpairedBytes (Coasts t) = bytesOf t
-unpairedBytes Dropped = freed
+-- a due track without a pair is missed: it coasts, or is dropped
+unfoldable pub missedBytes : Missed → List ℕ
+missedBytes (Coasts t) = bytesOf t
+missedBytes Dropped = freed
 
 unfoldable pub missedSlot : (sector : ℕ) (slot : List ℕ) → List ℕ
-missedSlot sector slot = unpairedBytes (withoutPair (trackOf slot) sector)
+missedSlot sector slot = missedBytes (withoutPair (trackOf slot) sector)
 
 -- a slot that is not due: other held tracks lose 1 from their wait, a free slot keeps its bytes
 unfoldable pub agedSlot : List ℕ → List ℕ
@@ -38,7 +34,7 @@ agedSlot slot = cond (eqb (at slot markAt) held) (bytesOf (agedOf (trackOf slot)
 unfoldable pub restedSlot : List ℕ → List ℕ
 restedSlot slot = cond (slotDue slot) slot (agedSlot slot)
 
--- the due tracks are counted in slot order: the next one's place in the pairing
+-- the due tracks are counted in slot order: the next one's rank in the pairing
 unfoldable pub dueRank : List ℕ → ℕ → ℕ
 dueRank slot rank = rank + cond (slotDue slot) 1 0
 
@@ -56,6 +52,7 @@ slotPrice prices slot rank = cond (slotDue slot) (at prices rank) 0
 abbrev pub noPrice : ℕ → ℕ
 noPrice price = 0
 
+-- each slot of the table, settled at its rank; and each slot's price
 unfoldable pub settledTable : Input → List ℕ → List (List ℕ)
 settledTable i P = outs dueRank (settledSlot (i .sector) (i .batch) P) (i .table) 0
 
@@ -65,20 +62,20 @@ slotPrices i prices = outs dueRank (slotPrice prices) (i .table) 0
 -- ---- the counts of due tracks without a pair
 
 -- a due track that is left out counts 1 where it coasts, or where it is dropped
-unfoldable pub coastedOne : Unpaired → ℕ
+unfoldable pub coastedOne : Missed → ℕ
 coastedOne (Coasts t) = 1
 coastedOne Dropped = 0
 
-unfoldable pub droppedOne : Unpaired → ℕ
+unfoldable pub droppedOne : Missed → ℕ
 droppedOne (Coasts t) = 0
 droppedOne Dropped = 1
 
--- what becomes of the due track at a place of the pairing that is left out there
-unfoldable pub missedAt : (table : List (List ℕ)) (sector rank : ℕ) → Unpaired
+-- what becomes of the due track of a rank that is left out
+unfoldable pub missedAt : (table : List (List ℕ)) (sector rank : ℕ) → Missed
 missedAt table sector rank = withoutPair (trackOf (getD table (getD (dueSlots table) rank 0) [])) sector
 
--- a sum over the places that are left out
-unfoldable pub missedSum : (Unpaired → ℕ) → (table : List (List ℕ)) (sector tracks : ℕ) (P : List ℕ) → ℕ
+-- a sum over the ranks that are left out
+unfoldable pub missedSum : (Missed → ℕ) → (table : List (List ℕ)) (sector tracks : ℕ) (P : List ℕ) → ℕ
 missedSum one table sector tracks P = Sum tracks (λ rank. cond (eqb (at P rank) none) (one (missedAt table sector rank)) 0)
 
 unfoldable pub coastedCount : Input → ℕ → List ℕ → ℕ

@@ -15,12 +15,12 @@ ghost use Rattle.intake.specs.Refusals.{input, dueSlots, Ready};
 ghost use Rattle.laws.specs.Places.{Placed};
 ghost use Rattle.walk.specs.Table.{agedSlot, missedSlot, pairedSlot, restedSlot, settledSlot, noPrice, settledTable, slotPrices};
 ghost use Rattle.walk.specs.Table.{coastedOne, droppedOne, coastedCount, droppedCount};
-ghost use Rattle.walk.specs.Counting.{Settles, SlotSettles, DueSettles, DuePriced};
+ghost use Rattle.walk.specs.Ready.{Settles, SlotSettles, DueSettles, DuePriced};
 use records::Site;
-use settling::Unpaired;
+use settling::Missed;
 
-// How many due tracks without a pair coast, and how many are dropped.
-pub struct Missed {
+// How many of the missed tracks coast, and how many are dropped.
+pub struct MissedCounts {
     pub coasted: u32,
     pub dropped: u32,
 }
@@ -46,8 +46,8 @@ fn missed_slot(slot: [u8; records::SLOT_BYTES], sector: u8) -> [u8; records::SLO
 {
     let outcome = settling::without_pair(records::unpack(slot), sector);
     match outcome {
-        Unpaired::Coasts(t) => records::pack(t),
-        Unpaired::Dropped => [0u8; records::SLOT_BYTES],
+        Missed::Coasts(t) => records::pack(t),
+        Missed::Dropped => [0u8; records::SLOT_BYTES],
     }
 }
 
@@ -67,7 +67,7 @@ fn paired_slot(
     records::pack(settling::updated(t, p, sector))
 }
 
-// What a slot becomes; rank is the place of a due track in the pairing.
+// What a slot becomes; rank counts the due tracks in slot order, as the pairing does.
 fn settled_slot(
     slot: [u8; records::SLOT_BYTES],
     rank: usize,
@@ -133,7 +133,7 @@ fn settle_due(
     }
 }
 
-// A price per slot: nothing where no track is due.
+// No slot has a price yet.
 fn clear_prices(prices: &mut [u32])
     ensures { λ _. ⌜ now (prices .exit) ≡ map noPrice (now (prices .entry)) ⌝ }
 {
@@ -156,7 +156,7 @@ fn price_due(due: &[usize], track_prices: &[u32], prices: &mut [u32])
     }
 }
 
-// A price per slot, those of the due ones in their places.
+// A price per slot: a due track's own, 0 at any other.
 fn price_slots(due: &[usize], track_prices: &[u32], prices: &mut [u32])
     requires { ⌜ DuePriced (now due) (now «track_prices») (now prices) ⌝ }
     ensures { λ _. ⌜ Placed 0 (now (due .entry)) (at (now («track_prices» .entry))) (map noPrice (now (prices .entry))) (now (prices .exit)) (length (now (due .entry))) ⌝ }
@@ -188,25 +188,25 @@ pub fn settle_table(
 }
 
 // What one due track adds to the counts; number is its report's, or NONE.
-fn missed_one(slot: [u8; records::SLOT_BYTES], number: u32, sector: u8) -> Missed
+fn missed_one(slot: [u8; records::SLOT_BYTES], number: u32, sector: u8) -> MissedCounts
     requires { ⌜ Settleable (trackOf slot) ⌝ }
     requires { ⌜ sector < sectors ⌝ }
     ensures { λ r. ⌜ (r .coasted ≡ cond (eqb number none) (coastedOne (withoutPair (trackOf slot) sector)) 0) × (r .coasted ≤ 1) ⌝ }
     ensures { λ r. ⌜ (r .dropped ≡ cond (eqb number none) (droppedOne (withoutPair (trackOf slot) sector)) 0) × (r .dropped ≤ 1) ⌝ }
 {
     if number != matching::NONE {
-        return Missed {
+        return MissedCounts {
             coasted: 0,
             dropped: 0,
         };
     }
     let outcome = settling::without_pair(records::unpack(slot), sector);
     match outcome {
-        Unpaired::Coasts(_) => Missed {
+        Missed::Coasts(_) => MissedCounts {
             coasted: 1,
             dropped: 0,
         },
-        Unpaired::Dropped => Missed {
+        Missed::Dropped => MissedCounts {
             coasted: 0,
             dropped: 1,
         },
@@ -221,7 +221,7 @@ pub fn count_missed(
     batch: &[[u8; records::REPORT_BYTES]],
     due: &[usize],
     pairing: &[u32],
-) -> Missed
+) -> MissedCounts
     requires { ⌜ Ready (input (now table) sector site (now batch)) ⌝ }
     requires { ⌜ (now due ≡ dueSlots (now table)) × (length (now due) ≤ length (now pairing)) ⌝ }
     ensures { λ r. ⌜ r .coasted ≡ coastedCount (input (now (table .entry)) sector site (now (batch .entry))) (length (now (due .entry))) (now (pairing .entry)) ⌝ }
@@ -229,14 +229,14 @@ pub fn count_missed(
 {
     let mut coasted: u32 = 0;
     let mut dropped: u32 = 0;
-    let mut i: usize = 0;
-    while i < due.len() {
-        let k = due[i];
+    let mut rank: usize = 0;
+    while rank < due.len() {
+        let k = due[rank];
         let slot = table[k];
-        let one = missed_one(slot, pairing[i], sector);
+        let one = missed_one(slot, pairing[rank], sector);
         coasted += one.coasted;
         dropped += one.dropped;
-        i += 1;
+        rank += 1;
     }
-    Missed { coasted, dropped }
+    MissedCounts { coasted, dropped }
 }

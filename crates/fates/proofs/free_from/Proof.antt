@@ -10,10 +10,10 @@ use Rattle.fates.proofs.free_from.Statement.{statement}
 use Rattle.fates.proofs.free_from.Tie as tie
 
 abbrev Inv-loop : tie.InvT-loop
-Inv-loop table from i₀ i = Passed isFree table i
+Inv-loop table from k₀ k = Passed isFree table k
 
 abbrev μ-loop : tie.MeasureT-loop
-μ-loop table from i₀ i = length table - i
+μ-loop table from k₀ k = length table - k
 
 loop-holds : tie.Need-loop-holds Inv-loop μ-loop
 unfolding freeSlot
@@ -32,8 +32,8 @@ returns : tie.Need-returns Inv-loop μ-loop
 unfolding freeSlot isFree
 returns c = passed-stop isFree [] (c .before .before .before .loop .inv) (c .before .before .loop-test .taken) (eq-eqb _ _ (c .if1 .taken))
 
-add-i : tie.Need-add-i Inv-loop μ-loop
-add-i c = search needs
+add-k : tie.Need-add-k Inv-loop μ-loop
+add-k c = search needs
 
 loop-less : tie.Need-loop-less Inv-loop μ-loop
 loop-less c = search needs
@@ -57,7 +57,7 @@ free-from-spec =
     shared-slice-copy-out-slot
     array-read-if1
     returns
-    add-i
+    add-k
     loop-less
     loop-again
     returns-2)

@@ -10,10 +10,10 @@ use Rattle.fates.proofs.owner_of.Statement.{statement}
 use Rattle.fates.proofs.owner_of.Tie as tie
 
 abbrev Inv-loop : tie.InvT-loop
-Inv-loop pairing j i₀ i = Passed (eqb j) pairing i
+Inv-loop pairing j rank₀ rank = Passed (eqb j) pairing rank
 
 abbrev μ-loop : tie.MeasureT-loop
-μ-loop pairing j i₀ i = length pairing - i
+μ-loop pairing j rank₀ rank = length pairing - rank
 
 loop-holds : tie.Need-loop-holds Inv-loop μ-loop
 loop-holds c = passed-none _ _
@@ -28,8 +28,8 @@ returns : tie.Need-returns Inv-loop μ-loop
 unfolding ownerOf
 returns c = passed-stop _ 0 (c .before .before .before .loop .inv) (c .before .before .loop-test .taken) (eq-eqb _ _ (sym (c .if1 .taken)))
 
-add-i : tie.Need-add-i Inv-loop μ-loop
-add-i c = search needs
+add-rank : tie.Need-add-rank Inv-loop μ-loop
+add-rank c = search needs
 
 loop-less : tie.Need-loop-less Inv-loop μ-loop
 loop-less c = search needs
@@ -51,7 +51,7 @@ owner-of-spec =
     mul-if1
     shared-slice-read-if1
     returns
-    add-i
+    add-rank
     loop-less
     loop-again
     returns-2)

@@ -20,17 +20,17 @@ shared-slice-read-k c = search needs
 mul-slot : tie.Need-mul-slot
 mul-slot c =
     let p = c .before .before .before .before .before .pre in
-    omega (arith, p .0 .due-lies (c .before .before .owner-of .result) (omega (arith, p .0 .entry-each)), p .0 .few-slots)
+    omega (arith, p .0 .due-lies (c .before .before .owner-of .result) (omega (arith, p .0 .number-each)), p .0 .few-slots)
 
 slice-copy-out-slot : tie.Need-slice-copy-out-slot
 slice-copy-out-slot c =
     let p = c .before .before .before .before .before .pre in
-    p .0 .due-lies (c .before .before .owner-of .result) (omega (arith, p .0 .entry-each))
+    p .0 .due-lies (c .before .before .owner-of .result) (omega (arith, p .0 .number-each))
 
 cast-t20 : tie.Need-cast-t20
 cast-t20 c =
     let p = c .before .before .before .before .before .before .pre in
-    omega (arith, p .0 .due-lies (c .before .before .before .owner-of .result) (omega (arith, p .0 .entry-each)), p .0 .few-slots)
+    omega (arith, p .0 .due-lies (c .before .before .before .owner-of .result) (omega (arith, p .0 .number-each)), p .0 .few-slots)
 
 shown-mark-requires : tie.Need-shown-mark-requires
 shown-mark-requires c κs = search needs

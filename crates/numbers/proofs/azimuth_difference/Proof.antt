@@ -1,4 +1,5 @@
 use Rattle.numbers.proofs.Forms.{wrapped}
+use Rattle.numbers.specs.Scales.{turn}
 use Rattle.numbers.specs.Azimuth.{signed16, azimuthDifference}
 use native.Mathlib.Omega.{arith}
 use mathlib.Core.Path.{_≡_, ap, _∙_}
@@ -18,7 +19,7 @@ unfolding azimuthDifference
 returns c =
     let s = c .before .before in
     let n = c .before .wrapping-sub-u16 .result in
-    let e : n ≡ (s .args .a + 65536 - s .args .b) % 65536 = wrapped n (s .args .a) (s .args .b) (omega arith) (omega arith) (omega arith) (omega arith) in
+    let e : n ≡ (s .args .a + turn - s .args .b) % turn = wrapped n (s .args .a) (s .args .b) (omega arith) (omega arith) (omega arith) (omega arith) in
     (c .from-bits .ensures .0 ∙ ap signed16 e, c .from-bits .ensures .1)
 
 pub azimuth-difference-spec : {M : Type 1} → statement M

@@ -1,6 +1,6 @@
 use Rattle.records.specs.Fields.{WellFormed}
 use Rattle.scoresheet.specs.Cells.{rowOf, cellsOf}
-use Rattle.scoresheet.proofs.Rows.{part-length, next-row, row-ready, RowsFilled, rows-none, rows-more, rows-end}
+use Rattle.scoresheet.proofs.Rows.{row-part, next-row, row-ready, RowsFilled, rows-none, rows-more, rows-end}
 use Prim.Native.Nat.{_-_}
 use mathlib.Core.Path.{_∙_}
 use native.Mathlib.Omega.{arith}
@@ -11,10 +11,10 @@ use Rattle.scoresheet.proofs.fill_rows.Statement.{statement}
 use Rattle.scoresheet.proofs.fill_rows.Tie as tie
 
 abbrev Inv-loop : tie.InvT-loop
-Inv-loop table sector site batch due sheet₀ reports i₀ sheet i = RowsFilled (input table sector site batch) due sheet sheet₀ i
+Inv-loop table sector site batch due sheet₀ reports rank₀ sheet rank = RowsFilled (input table sector site batch) due sheet sheet₀ rank
 
 abbrev μ-loop : tie.MeasureT-loop
-μ-loop table sector site batch due sheet₀ reports i₀ sheet i = length due - i
+μ-loop table sector site batch due sheet₀ reports rank₀ sheet rank = length due - rank
 
 loop-holds : tie.Need-loop-holds Inv-loop μ-loop
 loop-holds c = rows-none _ _ _
@@ -70,10 +70,10 @@ fill-row-requires c κs =
     let b = c .before .before .before .before .before .before .before .before in
     let n = next-row (b .pre .0) (b .pre .1) (c .before .before .before .before .before .loop .inv) (c .before .before .before .before .loop-test .taken) in
     let t : WellFormed (c .before .unpack .result) (b .args .sector) = rw (c .before .unpack .ensures) (n .track) in
-    row-ready (b .pre .0) t (part-length _ _ _ (n .room))
+    row-ready (b .pre .0) t (row-part _ _ _ (n .room))
 
-add-i : tie.Need-add-i Inv-loop μ-loop
-add-i c = search needs
+add-rank : tie.Need-add-rank Inv-loop μ-loop
+add-rank c = search needs
 
 loop-less : tie.Need-loop-less Inv-loop μ-loop
 loop-less c = search needs
@@ -112,7 +112,7 @@ fill-rows-spec =
     part-fill-row-start
     part-fill-row-end
     fill-row-requires
-    add-i
+    add-rank
     loop-less
     loop-again
     same-length

@@ -2,7 +2,7 @@ use Prim.Native.Nat.{_+_, _*_, _/_, _^_, _≤_, _<_}
 use mathlib.Core.Path.{_≡_, refl}
 use native.Mathlib.Omega.{arith}
 use borrow.Author.Needs.{needs}
-use Rattle.scoring.specs.Position.{positionMost, reaches, positionOf}
+use Rattle.scoring.specs.Position.{positionMost, eighthsSquared, reaches, positionOf}
 use Rattle.scoring.proofs.Largest.{Among, among-all, among-half, among-end}
 use Rattle.scoring.proofs.PositionLaws.{sides-fit, sigma-product, reaches-downward}
 use Rattle.scoring.proofs.position_number.Statement.{statement}
@@ -16,7 +16,7 @@ abbrev μ-loop : tie.MeasureT-loop
 μ-loop dr da range-sigma azimuth-sigma sigmas off low₀ width₀ low width = width
 
 -- the right side of the rule fits
-off-fits : (c : tie.After-square3 Inv-loop μ-loop) → 64 * (c .before .before .square2 .result + c .square3 .result) < 2 ^ 63
+off-fits : (c : tie.After-square3 Inv-loop μ-loop) → eighthsSquared * (c .before .before .square2 .result + c .square3 .result) < 2 ^ 63
 off-fits c =
     let s = c .before .before .before .before .before .before .args in
     rw (c .before .before .square2 .ensures, c .before .before .before .by-sigma2 .ensures, c .square3 .ensures, c .before .by-sigma3 .ensures)

@@ -10,7 +10,7 @@ use Rattle.scoring.proofs.score.Tie as tie
 -- the digits that the calls give are the pair's
 made : (c : tie.After-trust) →
     let s = c .before .before .before .before .before .before .before .before .before .args in
-    digitsWorth (c .before .before .before .before .before .before .before .before .zone .result) (c .before .before .before .before .position-number .result) (c .before .before .one-unless .result) (c .before .age .result) (c .trust .result) ≡ worthOf (s .t) (s .p) (s .g)
+    digitsWorth (c .before .before .before .before .before .before .before .before .zone .result) (c .before .before .before .before .position-number .result) (c .before .before .one-unless .result) (c .before .age .result) (c .trust .result) ≡ worthOf (s .t) (s .p) (s .site)
 unfolding worthOf pairPosition dopplerOf
 made c = cc
 
@@ -45,7 +45,7 @@ trust-requires c κs = search needs
 worth-requires : tie.Need-worth-requires
 worth-requires c κs =
     let s = c .before .before .before .before .before .before .before .before .before .args in
-    rw (made c) (worth-below (s .t) (s .p) (s .g))
+    rw (made c) (worth-below (s .t) (s .p) (s .site))
 
 returns-2 : tie.Need-returns-2
 unfolding scoreOf

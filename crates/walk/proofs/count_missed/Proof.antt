@@ -8,10 +8,10 @@ use Rattle.walk.proofs.count_missed.Statement.{statement}
 use Rattle.walk.proofs.count_missed.Tie as tie
 
 abbrev Inv-loop : tie.InvT-loop
-Inv-loop table sector batch due pairing coasted₀ dropped₀ i₀ coasted dropped i = MissedSoFar table sector due pairing coasted dropped i
+Inv-loop table sector batch due pairing coasted₀ dropped₀ rank₀ coasted dropped rank = MissedSoFar table sector due pairing coasted dropped rank
 
 abbrev μ-loop : tie.MeasureT-loop
-μ-loop table sector batch due pairing coasted₀ dropped₀ i₀ coasted dropped i = length due - i
+μ-loop table sector batch due pairing coasted₀ dropped₀ rank₀ coasted dropped rank = length due - rank
 
 loop-holds : tie.Need-loop-holds Inv-loop μ-loop
 loop-holds c = missed-none _ _ _ _
@@ -53,8 +53,8 @@ add-dropped c =
     let s = c .before .before .before .before .before .before .before .before .before .before in
     omega (arith, next-due (s .pre .0) (s .pre .1 .0) (c .before .before .before .before .before .before .loop-test .taken) .few, c .before .before .before .before .before .before .before .loop .inv .few .1, c .before .before .missed-one .ensures .1 .1)
 
-add-i : tie.Need-add-i Inv-loop μ-loop
-add-i c = search needs
+add-rank : tie.Need-add-rank Inv-loop μ-loop
+add-rank c = search needs
 
 loop-less : tie.Need-loop-less Inv-loop μ-loop
 loop-less c = search needs
@@ -85,7 +85,7 @@ count-missed-spec =
     missed-one-requires
     add-coasted
     add-dropped
-    add-i
+    add-rank
     loop-less
     loop-again
     returns)

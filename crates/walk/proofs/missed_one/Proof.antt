@@ -1,6 +1,6 @@
 use Rattle.records.specs.Bytes.{trackOf}
 use Rattle.settling.specs.Settle.{withoutPair}
-use Rattle.settling.specs.declared.Unpaired.the-variants.{Coasts, Dropped}
+use Rattle.settling.specs.declared.Missed.the-variants.{Coasts, Dropped}
 use mathlib.Core.Path.{_≡_, refl}
 use Rattle.walk.specs.Table.{coastedOne, droppedOne}
 use borrow.Author.Tests.{eq-eqb, ne-eqb}

@@ -1,9 +1,8 @@
-use Rattle.records.specs.Bytes.{trackOf}
+use Rattle.records.specs.Bytes.{freed, trackOf}
 use Rattle.walk.proofs.Slots.{missed-kept, missed-dropped, speeds-fit}
-use Rattle.settling.specs.declared.Unpaired.the-variants.{Coasts, Dropped}
+use Rattle.settling.specs.declared.Missed.the-variants.{Coasts, Dropped}
 use Rattle.settling.specs.Settle.{withoutPair}
 use mathlib.Core.Path.{_≡_, _∙_, sym}
-use Rattle.walk.specs.Table.{freed}
 use Rattle.settling.proofs.HandedOn.{settleable, coasted-served}
 use borrow.Author.Needs.{needs}
 use Rattle.walk.proofs.missed_slot.Statement.{statement}

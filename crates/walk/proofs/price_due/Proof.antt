@@ -25,16 +25,16 @@ shared-slice-read-k : tie.Need-shared-slice-read-k Inv-loop μ-loop
 shared-slice-read-k c = search needs
 
 mul-prices : tie.Need-mul-prices Inv-loop μ-loop
-mul-prices c = omega (arith, c .before .before .before .pre .places .within (c .before .before .loop .rank) (c .before .loop-test .taken))
+mul-prices c = omega (arith, c .before .before .before .pre .distinct .within (c .before .before .loop .rank) (c .before .loop-test .taken))
 
 shared-slice-read-prices : tie.Need-shared-slice-read-prices Inv-loop μ-loop
 shared-slice-read-prices c = omega (arith, c .before .before .before .before .pre .priced)
 
 mul-prices-2 : tie.Need-mul-prices-2 Inv-loop μ-loop
-mul-prices-2 c = omega (arith, c .before .before .before .before .pre .places .within _ (c .before .before .loop-test .taken), c .before .before .before .before .pre .few)
+mul-prices-2 c = omega (arith, c .before .before .before .before .pre .distinct .within _ (c .before .before .loop-test .taken), c .before .before .before .before .pre .few)
 
 slice-write-prices : tie.Need-slice-write-prices Inv-loop μ-loop
-slice-write-prices c = omega (arith, c .before .before .before .before .pre .places .within _ (c .before .before .loop-test .taken), c .before .before .before .loop .inv .same)
+slice-write-prices c = omega (arith, c .before .before .before .before .pre .distinct .within _ (c .before .before .loop-test .taken), c .before .before .before .loop .inv .same)
 
 add-rank : tie.Need-add-rank Inv-loop μ-loop
 add-rank c = search needs
@@ -43,7 +43,7 @@ loop-less : tie.Need-loop-less Inv-loop μ-loop
 loop-less c = search needs
 
 loop-again : tie.Need-loop-again Inv-loop μ-loop
-loop-again c = placed-more 0 (c .before .before .before .loop .inv) (c .before .before .loop-test .taken) (c .before .before .before .before .pre .places) refl
+loop-again c = placed-more 0 (c .before .before .before .loop .inv) (c .before .before .loop-test .taken) (c .before .before .before .before .pre .distinct) refl
 
 same-length : tie.Need-same-length Inv-loop μ-loop
 same-length c = c .before .loop .inv .same

@@ -49,7 +49,7 @@ loop-less c = search needs
 loop-again : tie.Need-loop-again Inv-loop μ-loop
 loop-again c =
     let s = c .before .before .before .before .before .before .before in
-    placed-more [] (c .before .before .before .before .loop .inv) (c .before .before .before .loop-test .taken) (s .pre .places)
+    placed-more [] (c .before .before .before .before .loop .inv) (c .before .before .before .loop-test .taken) (s .pre .distinct)
     (rw (next-settled (s .pre) (c .before .before .before .before .loop .inv) (c .before .before .before .loop-test .taken) .same) at (c .settled-slot .ensures))
 
 same-length : tie.Need-same-length Inv-loop μ-loop

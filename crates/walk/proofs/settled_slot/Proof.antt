@@ -1,5 +1,5 @@
 use borrow.Author.Tests.{not-true, not-false, eq-eqb, ne-eqb}
-use Rattle.walk.proofs.Slots.{due-track}
+use Rattle.scoresheet.proofs.Due.{due-track}
 use Rattle.settling.proofs.HandedOn.{settleable}
 use Rattle.records.proofs.Checked.{sound}
 use native.Mathlib.Omega.{arith}
@@ -20,10 +20,10 @@ unfolding settledSlot
 returns c = rw (sym (c .before .before .slot-due .ensures) ∙ not-true _ (c .before .if1 .taken)) (c .age-slot .ensures)
 
 mul-number : tie.Need-mul-number
-mul-number c = omega (arith, c .before .before .before .pre .place (sym (c .before .slot-due .ensures) ∙ not-false _ (c .if1 .left)))
+mul-number c = omega (arith, c .before .before .before .pre .ranked (sym (c .before .slot-due .ensures) ∙ not-false _ (c .if1 .left)))
 
 shared-slice-read-number : tie.Need-shared-slice-read-number
-shared-slice-read-number c = c .before .before .before .before .pre .place (sym (c .before .before .slot-due .ensures) ∙ not-false _ (c .before .if1 .left))
+shared-slice-read-number c = c .before .before .before .before .pre .ranked (sym (c .before .before .slot-due .ensures) ∙ not-false _ (c .before .if1 .left))
 
 missed-slot-requires : tie.Need-missed-slot-requires
 missed-slot-requires c κs =
