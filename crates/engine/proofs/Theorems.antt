@@ -20,7 +20,7 @@ module _ {n m : ℕ} {cells pairing prices discounts pairing′ prices′ discou
   pub accepts-every-best : (q : List ℕ) → n ≤ length q → Best (sheetOf n m cells) (at q) → checkAnswer n m cells q prices′ discounts′ ≡ 0
   accepts-every-best q l b = best-is-zero n m cells pairing′ q prices′ discounts′ (R .accepted) l b
 
-  -- All that the check's 0 says, in one: best, as good as every best pairing, fewest misses, no report unused that a missed track could use.
+  -- what is written is long enough
   fits : Fits n m cells pairing′ prices′ discounts′
   fits = zero-certificate n m cells pairing′ prices′ discounts′ (R .accepted) .0
 
