@@ -1,5 +1,5 @@
 -- A cell after an offer.
-use Prim.Native.Nat.{ℕ, _+_, _≤_, _<_, _^_}
+use Prim.Native.Nat.{ℕ, _+_, _≤_, _<_}
 use mathlib.Core.Path.{_≡_}
 use mathlib.Core.List.{List}
 use lib.ListN.{length}
@@ -20,11 +20,11 @@ pub record Going (cells discounts : List ℕ) (from price i : ℕ) (labels via :
   pub via-rest : (k : ℕ) → j ≤ k → at via′ k ≡ at via k
 
 module _ (cell discount from price i label via offer label′ via′ : ℕ)
-    (fair : cell < far → offer + price ≡ from + cell + discount) (none : far ≤ cell → 2 ^ 29 ≤ offer) (small : label ≤ leftOut)
+    (fair : cell < far → offer + price ≡ from + cell + discount) (beyond : far ≤ cell → leftOut < offer) (small : label ≤ leftOut)
     (below-offer : label′ ≤ offer) (below-label : label′ ≤ label) (taken : offer < label → label′ ≡ offer) (left : label ≤ offer → label′ ≡ label)
     (taken-via : offer < label → via′ ≡ i) (left-via : label ≤ offer → via′ ≡ via) where
   open-if : offer < label → cell < far
-  open-if h = ⊎-elim (λ b. let n : 2 ^ 29 ≤ offer = none b in omega arith) (λ b. b) (le-or-lt (far) cell)
+  open-if h = ⊎-elim (λ b. let n : leftOut < offer = beyond b in omega arith) (λ b. b) (le-or-lt far cell)
 
   pub step : Step cell discount from price i label via label′ via′
   step = record {

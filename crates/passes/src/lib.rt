@@ -43,7 +43,7 @@ pub fn fill(a: &mut [u32], v: u32)
 // What a track at this label offers to a report: `none` is far away.
 fn offer(cell: u32, discount: u32, label: u32, price: u32) -> u32
     requires { ⌜ (discount ≤ leftOut) × ((label ≤ leftOut) × ((price ≤ leftOut) × ((cell < far → price ≤ cell + discount) × IsCell cell))) ⌝ }
-    ensures { λ r. ⌜ (cell < far → r + price ≡ label + cell + discount) × ((far ≤ cell → 2 ^ 29 ≤ r) × (r < 2 ^ 31)) ⌝ }
+    ensures { λ r. ⌜ (cell < far → r + price ≡ label + cell + discount) × ((far ≤ cell → leftOut < r) × (r < 2 ^ 31)) ⌝ }
 {
     cell % FAR + discount - price + label
 }
