@@ -259,7 +259,7 @@ fn assign(
     }
 }
 
-// The engine on a sheet whose cells were tested, up to 200 reports wide; its working lists are its own.
+// The engine on a sheet whose cells were tested, up to WIDEST reports wide; its working lists are its own.
 pub fn pair_cells(
     sheet: &[u32],
     reports: usize,
