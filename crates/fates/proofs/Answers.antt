@@ -8,15 +8,16 @@ use borrow.Author.Tests.{ltb-true}
 use lib.Dec.{eqb, leb, ltb}
 use lib.ListN.{length, getD, take}
 use lib.Seq.{take-at}
-use Rattle.laws.specs.Lists.{indicesFrom, outs}
+use Rattle.laws.specs.Lists.{outs}
 use Rattle.laws.proofs.Listed.{length-listed}
 use Rattle.laws.proofs.Fold.{length-outs}
 use Rattle.records.specs.Fields.{isWeak}
-use Rattle.records.specs.Bytes.{reportOf}
-use Rattle.fates.specs.Fates.{paired, started, weak, full, Handed, isFree, freeSlot, ownerOf, shownMark, slotOf, toldPaired, toldBy, toldUnpaired, toldOf, afterReport, reportNumbers, fatesOf, slotsOf, shownOf, countOf}
-use Rattle.laws.proofs.Rounds.{numbers, told-at, count-from}
+use Rattle.records.specs.Bytes.{reportOf, isFree}
+use Rattle.fates.specs.Fates.{paired, started, weak, full, Handed, freeSlot, ownerOf, shownMark, slotOf, toldPaired, toldBy, toldUnpaired, toldOf, afterReport, reportNumbers, fatesOf, slotsOf, shownOf, countOf}
+use Rattle.laws.proofs.Rounds.{numbers, told-at}
 use Rattle.fates.proofs.Telling.{fateOut, slotOut, shownOut}
 use Rattle.fates.proofs.Starts.{tableAt, held-at}
+use Rattle.laws.proofs.Counts.{count-cons, count-none}
 
 -- ---- an answer a report
 
@@ -63,29 +64,17 @@ pub fate-of-each : (h : Handed) (P : List ℕ) (table : List (List ℕ)) (j : �
 unfolding fatesOf reportNumbers
 fate-of-each h P table j l = rw (told-at (afterReport h P) (fateOut h P) (length (h .batch)) (λ j. j) table j 0 l) (told-fate h P j (tableAt h P j table))
 
--- the first of a list counts 1 where it has the fate
-count-cons : (fate f : ℕ) (fs : List ℕ) → countOf fate (f ∷ fs) ≡ cond (eqb fate f) 1 0 + countOf fate fs
-unfolding countOf indicesFrom
-count-cons fate f fs = go (eqb fate f)
-  where
-    go : (b : Bool) → length (cond b (0 ∷ indicesFrom (eqb fate) 1 fs) (indicesFrom (eqb fate) 1 fs)) ≡ cond b 1 0 + length (indicesFrom (eqb fate) 0 fs)
-    go true = omega (arith, count-from (eqb fate) 1 0 fs)
-    go false = omega (arith, count-from (eqb fate) 1 0 fs)
-
 four-once : (f : ℕ) → Fate f → cond (eqb paired f) 1 0 + cond (eqb started f) 1 0 + cond (eqb weak f) 1 0 + cond (eqb full f) 1 0 ≡ 1
 four-once f is-paired = refl
 four-once f is-started = refl
 four-once f is-weak = refl
 four-once f is-full = refl
 
-count-none : (fate : ℕ) → countOf fate [] ≡ 0
-unfolding countOf indicesFrom
-count-none fate = refl
-
 all-counted : (fs : List ℕ) → ((j : ℕ) → j < length fs → Fate (getD fs j 0)) → countOf paired fs + countOf started fs + countOf weak fs + countOf full fs ≡ length fs
-all-counted [] w = omega (arith, count-none paired, count-none started, count-none weak, count-none full)
+unfolding countOf
+all-counted [] w = omega (arith, count-none (eqb paired), count-none (eqb started), count-none (eqb weak), count-none (eqb full))
 all-counted (f ∷ fs) w =
-    omega (arith, count-cons paired f fs, count-cons started f fs, count-cons weak f fs, count-cons full f fs, four-once f (w 0 (omega arith)), all-counted fs (λ j l. w (suc j) (omega arith)))
+    omega (arith, count-cons (eqb paired) f fs, count-cons (eqb started) f fs, count-cons (eqb weak) f fs, count-cons (eqb full) f fs, four-once f (w 0 (omega arith)), all-counted fs (λ j l. w (suc j) (omega arith)))
 
 -- every report has one of the four fates, and the four counts account for every report
 pub record OneFate (reports : ℕ) (fates : List ℕ) : Type 0 where

@@ -14,11 +14,11 @@ use Rattle.numbers.specs.Scales.{turn, sectors}
 use Rattle.numbers.specs.Sectors.{nextSector}
 use Rattle.records.specs.declared.Report.{Report}
 use Rattle.records.specs.Fields.{trackFields, Sound}
-use Rattle.records.specs.Bytes.{bytesOf, reportOf, badSlotField}
+use Rattle.records.specs.Bytes.{bytesOf, reportOf, badSlotField, isFree}
 use Rattle.records.proofs.Packed.{packed-good}
 use Rattle.settling.specs.Settle.{startedOf}
 use Rattle.settling.proofs.HandedOn.{started-served}
-use Rattle.fates.specs.Fates.{started, Handed, isFree, freeSlot, ownerOf, toldUnpaired, afterUnpaired, afterReport, reportNumbers, startedTable}
+use Rattle.fates.specs.Fates.{started, Handed, freeSlot, ownerOf, toldUnpaired, afterUnpaired, afterReport, reportNumbers, startedTable}
 use Rattle.laws.proofs.Rounds.{numbers, all-keep}
 
 -- a report leaves the table as it is, or starts its track in the lowest free slot: what both keep, it keeps

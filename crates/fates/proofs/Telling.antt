@@ -9,9 +9,9 @@ use lib.Dec.{leb, ltb}
 use lib.ListN.{length, getD, set}
 use Rattle.records.specs.declared.Report.{Report}
 use Rattle.records.specs.Fields.{isWeak}
-use Rattle.records.specs.Bytes.{bytesOf, reportOf}
+use Rattle.records.specs.Bytes.{bytesOf, reportOf, isFree}
 use Rattle.settling.specs.Settle.{startedOf}
-use Rattle.fates.specs.Fates.{started, weak, full, freeSlot, isFree, ownerOf, noTrack, toldUnpaired, afterUnpaired, toldOf, afterReport, Handed, Tellable}
+use Rattle.fates.specs.Fates.{started, weak, full, freeSlot, ownerOf, noTrack, toldUnpaired, afterUnpaired, toldOf, afterReport, Handed, Tellable}
 use Rattle.laws.proofs.Rounds.{first-later}
 
 -- the fate of a report without a pair: the first that applies

@@ -5,10 +5,10 @@ use mathlib.Core.Bool.{Bool, cond}
 use mathlib.Core.List.{List, []}
 use lib.Dec.{leb, ltb, eqb}
 use lib.ListN.{length, getD, set}
-use Rattle.laws.specs.Lists.{at, firstIndex, indicesFrom, afterAll, outs, listed}
+use Rattle.laws.specs.Lists.{firstIndex, afterAll, outs, listed, count}
 use Rattle.records.specs.declared.Report.{Report}
-use Rattle.records.specs.Fields.{free, isWeak}
-use Rattle.records.specs.Bytes.{markAt, trackOf, bytesOf, reportOf}
+use Rattle.records.specs.Fields.{isWeak}
+use Rattle.records.specs.Bytes.{trackOf, bytesOf, reportOf, isFree}
 use Rattle.numbers.specs.Scales.{sectors}
 use Rattle.settling.specs.Settle.{startedOf}
 use Rattle.intake.specs.Refusals.{mostSlots, mostBatch}
@@ -45,9 +45,6 @@ abbrev pub handed : List ℕ → ℕ → List (List ℕ) → Handed
 handed due sector batch = record { due = due; sector = sector; batch = batch }
 
 -- the lowest free slot, or the table's length
-unfoldable pub isFree : List ℕ → Bool
-isFree slot = eqb (at slot markAt) free
-
 unfoldable pub freeSlot : List (List ℕ) → ℕ
 freeSlot table = firstIndex isFree table
 
@@ -113,7 +110,7 @@ shownOf h P table = outs (afterReport h P) (λ j t. toldOf h P j t .shown) (repo
 
 -- how many reports have a fate
 unfoldable pub countOf : ℕ → List ℕ → ℕ
-countOf fate fates = length (indicesFrom (eqb fate) 0 fates)
+countOf fate fates = count (eqb fate) fates
 
 -- ---- what the code counts on
 

@@ -11,4 +11,5 @@ pub mod Stores
 pub mod Parts
 pub mod Ranks
 pub mod Rounds
+pub mod Counts
 pub mod Places

@@ -1,11 +1,15 @@
--- A part of a list, from a up to e, read at each index; and a list whose part is put back changed.
+-- A part of a list, from a up to e, read at each index, or its first n; and a list whose part is put back changed.
 use Prim.Native.Nat.{ℕ, _+_, _-_, _≤_, _<_}
 use mathlib.Core.Path.{_≡_, ap, sym, _∙_}
 use mathlib.Core.List.{List}
 use native.Mathlib.Omega.{arith}
 use borrow.Rule.Slice.PartMut.{putMid}
-use lib.ListN.{length, getD, take, drop, length-drop, List·getD-append}
+use lib.ListN.{length, getD, take, drop, length-take, length-drop, List·getD-append}
 use lib.Seq.{getD-take, getD-drop, getD-append-add, length-take-le}
+
+-- a list has room for what its first n entries are
+pub listed-room : (xs ys : List ℕ) {n : ℕ} → n ≡ length ys → take n xs ≡ ys → n ≤ length xs
+listed-room xs ys {n} c s = omega (arith, ap length s ∙ sym c, length-take n xs)
 
 abbrev pub part : List ℕ → ℕ → ℕ → List ℕ
 part xs a e = take (e - a) (drop a xs)

@@ -8,7 +8,7 @@ use native.Mathlib.Nat.{zero-add, le-of-suc-le-suc, not-suc-le-zero}
 use native.Mathlib.Numerals.{add-one}
 use lib.ListN.{length, getD, take, drop, set, length-set, drop-of-length-le}
 use lib.Seq.{drop-cons, length-take-le, take-suc-set, take-set-le}
-use Rattle.laws.specs.Lists.{firstIndex, indicesFrom}
+use Rattle.laws.specs.Lists.{firstIndex, indicesFrom, count}
 
 -- the first i elements are passed, none of the kind
 pub record Passed {A : Type 0} (p : A → Bool) (xs : List A) (i : ℕ) : Type 0 where
@@ -125,7 +125,7 @@ module _ {A : Type 0} (p : A → Bool) where
             found = rw (same, take-set-le n out n i (omega arith)) (rw (indices-skip p xs i d h f) at (g .found));
           }
 
-  pub gathered-end : {xs : List A} {out : List ℕ} {n i : ℕ} → Gathered p xs out n i → length xs ≤ i → (n ≡ length (indicesFrom p 0 xs)) × (take n out ≡ indicesFrom p 0 xs)
+  pub gathered-end : {xs : List A} {out : List ℕ} {n i : ℕ} → Gathered p xs out n i → length xs ≤ i → (n ≡ count p xs) × (take n out ≡ indicesFrom p 0 xs)
   gathered-end {xs} {out} {n} {i} g h =
       let all : take n out ++ [] ≡ indicesFrom p 0 xs = rw (indices-out p xs i h) at (g .found) in
       let e : take n out ≡ indicesFrom p 0 xs = sym (append-nil (take n out)) ∙ all in
@@ -135,7 +135,7 @@ module _ {A : Type 0} (p : A → Bool) where
 pub record Counted {A : Type 0} (p : A → Bool) (xs : List A) (n i : ℕ) : Type 0 where
   pub upto : i ≤ length xs
   pub few : n ≤ i
-  pub ahead : n + length (indicesFrom p i (drop i xs)) ≡ length (indicesFrom p 0 xs)
+  pub ahead : n + length (indicesFrom p i (drop i xs)) ≡ count p xs
 
 module _ {A : Type 0} (p : A → Bool) where
   pub counted-none : (xs : List A) → Counted p xs 0 0
@@ -152,5 +152,5 @@ module _ {A : Type 0} (p : A → Bool) where
           let none : k ≡ 0 = rw f at e in
           record { upto = omega arith; few = omega (arith, w .few); ahead = omega (arith, rw (indices-skip p xs i d h f) at (w .ahead)) }
 
-  pub counted-end : {xs : List A} {n i : ℕ} → Counted p xs n i → length xs ≤ i → n ≡ length (indicesFrom p 0 xs)
+  pub counted-end : {xs : List A} {n i : ℕ} → Counted p xs n i → length xs ≤ i → n ≡ count p xs
   counted-end {xs} {n} {i} w h = omega (arith, rw (indices-out p xs i h) at (w .ahead))

@@ -2,7 +2,7 @@
 use Prim.Native.Nat.{ℕ, zero, suc}
 use mathlib.Core.List.{List, [], _∷_}
 use mathlib.Core.Bool.{Bool, cond}
-use lib.ListN.{getD}
+use lib.ListN.{length, getD}
 
 module _ {A : Type 0} (p : A → Bool) where
   -- the index of the first element that p holds of, or the length
@@ -14,6 +14,10 @@ module _ {A : Type 0} (p : A → Bool) where
   unfoldable pub indicesFrom : ℕ → List A → List ℕ
   indicesFrom i [] = []
   indicesFrom i (x ∷ xs) = cond (p x) (i ∷ indicesFrom (suc i) xs) (indicesFrom (suc i) xs)
+
+  -- and how many they are
+  abbrev pub count : List A → ℕ
+  count xs = length (indicesFrom 0 xs)
 
 -- a state that each element of a list changes in turn
 module _ {B S : Type 0} (step : B → S → S) where

@@ -9,7 +9,7 @@ use Rattle.intake.proofs.Readiness.{ready, not-refused}
 use Rattle.sector.specs.declared.Counts.{Counts}
 use Rattle.sector.specs.declared.Served.{Served}
 use Rattle.sector.specs.declared.Served.the-variants as served
-use Rattle.sector.specs.Serve.{Lent, ServesSector}
+use Rattle.sector.specs.Serve.{Lent, ServesSector, countList}
 use Rattle.scoresheet.specs.declared.Sheeted.{Sheeted}
 use Rattle.scoresheet.specs.declared.Sheeted.the-variants as sheeted
 use Rattle.scoresheet.specs.Cells.{tracksOf, reportsOf}
@@ -17,7 +17,7 @@ use Rattle.scoresheet.specs.Call.{cellRoom, sheetedBy, sheetedOf, sheetAfter}
 use Rattle.engine.specs.declared.Paired.{Paired}
 use Rattle.engine.specs.declared.Paired.the-variants as paired
 use Rattle.engine.specs.Call.{PairsSheet}
-use Rattle.plotunit.specs.Calls.{countList, servedNumber, servedCounts, ServesForC, sheetedNumber, sheetedSize, ScoresForC, pairedNumber, PairsForC}
+use Rattle.plotunit.specs.Calls.{servedNumber, servedCounts, ServesForC, sheetedNumber, sheetedSize, ScoresForC, pairedNumber, PairsForC}
 
 -- ---- the sector call
 

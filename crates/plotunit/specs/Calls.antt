@@ -5,10 +5,9 @@ use mathlib.Core.Path.{_≡_}
 use mathlib.Core.List.{List, [], _∷_}
 use Rattle.records.specs.declared.Site.{Site}
 use Rattle.intake.specs.Refusals.{Input}
-use Rattle.sector.specs.declared.Counts.{Counts}
 use Rattle.sector.specs.declared.Served.{Served}
 use Rattle.sector.specs.declared.Served.the-variants as served
-use Rattle.sector.specs.Serve.{Lent, ServesSector}
+use Rattle.sector.specs.Serve.{Lent, ServesSector, countList}
 use Rattle.scoresheet.specs.declared.Sheeted.{Sheeted}
 use Rattle.scoresheet.specs.declared.Sheeted.the-variants as sheeted
 use Rattle.scoresheet.specs.Call.{sheetedOf, sheetAfter}
@@ -21,10 +20,6 @@ abbrev pub siteFrom : (rangeSigma azimuthSigma : ℕ) → Site
 siteFrom r a = record { «range_sigma» = r; «azimuth_sigma» = a }
 
 -- ---- the sector call
-
--- paired, coasted, dropped, started, weak, full, score sum
-unfoldable pub countList : Counts → List ℕ
-countList c = c .paired ∷ c .coasted ∷ c .dropped ∷ c .started ∷ c .weak ∷ c .full ∷ c .«score_sum» ∷ []
 
 unfoldable pub servedNumber : Served → ℕ
 servedNumber (served.Refused k) = k

@@ -2,9 +2,9 @@
 // refusal, and then nothing that was lent has changed.
 ghost use mathlib.Core.Path.{_≡_};
 ghost use Rattle.intake.specs.Refusals.{input};
-ghost use Rattle.sector.specs.Serve.{lent};
+ghost use Rattle.sector.specs.Serve.{lent, countList};
 ghost use Rattle.matching.specs.Answer.{checkAnswer};
-ghost use Rattle.plotunit.specs.Calls.{siteFrom, countList, ServesForC, ScoresForC, PairsForC};
+ghost use Rattle.plotunit.specs.Calls.{siteFrom, ServesForC, ScoresForC, PairsForC};
 use engine::Paired;
 use records::Site;
 use scoresheet::Sheeted;

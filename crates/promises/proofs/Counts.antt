@@ -24,7 +24,7 @@ use Rattle.sector.specs.Serve.{Chosen, Choice, reportsIn, fatesIn, tally, count
 use Rattle.promises.specs.Words.{fateAt}
 use Rattle.promises.proofs.Pairings.{few-reports, valid-pairing, one-to-one}
 use Rattle.promises.proofs.Reports.{owner-has, owner-there, paired-when, paired-only}
-use Rattle.promises.proofs.Tallies.{count-places}
+use Rattle.laws.proofs.Counts.{count-places}
 
 -- Each report is counted once: as paired, started, weak or full.
 pub reports-all-counted : (i : Input) (P : List ℕ) → countsOf i P .paired + countsOf i P .started + countsOf i P .weak + countsOf i P .full ≡ reportsOf i

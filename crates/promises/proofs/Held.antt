@@ -14,7 +14,7 @@ use Rattle.laws.proofs.Tests.{and-left}
 use Rattle.records.specs.declared.Track.{Track}
 use Rattle.records.specs.declared.Report.{Report}
 use Rattle.records.specs.Fields.{free, held, isWeak, allowance}
-use Rattle.records.specs.Bytes.{freed, markAt, waitAt, trackOf, bytesOf, reportOf, slotDue}
+use Rattle.records.specs.Bytes.{freed, markAt, waitAt, trackOf, bytesOf, reportOf, slotDue, isFree, isHeld}
 use Rattle.settling.specs.declared.Missed.the-variants.{Coasts, Dropped}
 use Rattle.settling.specs.Settle.{updatedOf, coastedOf, withoutPair, startedOf, agedOf}
 use Rattle.matching.specs.Pairing.{none}
@@ -23,14 +23,14 @@ use Rattle.scoresheet.specs.Cells.{tracksOf}
 use Rattle.walk.specs.Table.{pairedSlot, missedBytes, missedSlot, agedSlot, settledSlot, settledTable, droppedOne, missedAt, missedSum, droppedCount}
 use Rattle.walk.proofs.Settled.{settled-length, rankOf, due-at-rank, settled-at}
 use Rattle.fates.specs.declared.Told.{Told}
-use Rattle.fates.specs.Fates.{started, Handed, isFree, freeSlot, ownerOf, slotOf, toldPaired, toldBy, toldUnpaired, afterUnpaired, toldOf, afterReport, reportNumbers, startedTable, fatesOf, countOf}
+use Rattle.fates.specs.Fates.{started, Handed, freeSlot, ownerOf, slotOf, toldPaired, toldBy, toldUnpaired, afterUnpaired, toldOf, afterReport, reportNumbers, startedTable, fatesOf, countOf}
 use Rattle.fates.proofs.Telling.{fateOut}
 use Rattle.sector.specs.declared.Counts.{Counts}
 use Rattle.sector.specs.Serve.{Lent, Chosen, Choice, reportsIn, fatesIn, tally, countsOf, afterOf, ServedWith}
-use Rattle.promises.specs.Words.{isHeld, heldCount, SameScore, Accounted, CountedAlike}
+use Rattle.promises.specs.Words.{heldCount, SameScore, Accounted, CountedAlike}
 use Rattle.promises.proofs.Calls.{score-counted, pairs-and-sum-agree}
 use Rattle.promises.proofs.Counts.{reports-all-counted, paired-count-is-pairs, due-tracks-all-counted}
-use Rattle.promises.proofs.Tallies.{count-places, sum-by-rank, count-set, raised-by-answers}
+use Rattle.laws.proofs.Counts.{count-places, sum-by-rank, count-set, raised-by-answers}
 
 -- 1 for a slot that holds a track
 abbrev one : List ℕ → ℕ
@@ -39,15 +39,15 @@ one slot = cond (isHeld slot) 1 0
 -- ---- the slots, as pairing leaves them
 
 held-bytes : (t : Track) → t .mark ≡ held → isHeld (bytesOf t) ≡ true
-unfolding isHeld bytesOf
+unfolding bytesOf
 held-bytes t e = eq-eqb (t .mark) held e
 
 freed-not-held : isHeld freed ≡ false
-unfolding isHeld freed
+unfolding freed
 freed-not-held = refl
 
 due-held : (slot : List ℕ) → slotDue slot ≡ true → isHeld slot ≡ true
-unfolding slotDue isHeld
+unfolding slotDue
 due-held slot d = and-left (eqb (at slot markAt) held) (eqb (at slot waitAt) 0) d
 
 paired-held : (s : ℕ) (report slot : List ℕ) → isHeld (pairedSlot s report slot) ≡ true
@@ -59,7 +59,7 @@ unfolding bytesOf agedOf trackOf
 aged-mark slot = refl
 
 aged-held : (slot : List ℕ) → isHeld (agedSlot slot) ≡ isHeld slot
-unfolding agedSlot isHeld
+unfolding agedSlot
 aged-held slot = go (eqb (at slot markAt) held) refl
   where
     go : (b : Bool) → eqb (at slot markAt) held ≡ b → eqb (at (cond b (bytesOf (agedOf (trackOf slot))) slot) markAt) held ≡ eqb (at slot markAt) held
@@ -115,7 +115,6 @@ settled-held i P =
 
 -- a slot that is free is not held, and the lowest free one is
 free-not-held : (slot : List ℕ) → isFree slot ≡ true → isHeld slot ≡ false
-unfolding isFree isHeld
 free-not-held slot e =
     let f : at slot markAt ≡ free = eqb-true (at slot markAt) free e in
     ne-eqb (at slot markAt) held (λ z. omega arith)

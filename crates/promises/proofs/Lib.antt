@@ -3,7 +3,6 @@
 pub mod Calls
 pub mod Pairings
 pub mod Together
-pub mod Tallies
 pub mod Reports
 pub mod Slots
 pub mod Answers

@@ -15,7 +15,7 @@ use Rattle.laws.proofs.Tests.{clash}
 use Rattle.records.specs.declared.Track.{Track}
 use Rattle.records.specs.declared.Report.{Report}
 use Rattle.records.specs.Fields.{isWeak}
-use Rattle.records.specs.Bytes.{trackOf, bytesOf, reportOf, slotDue}
+use Rattle.records.specs.Bytes.{trackOf, bytesOf, reportOf, slotDue, isFree}
 use Rattle.settling.specs.Settle.{updatedOf, updatesMost}
 use Rattle.settling.proofs.HandedOn.{updated-updates}
 use Rattle.matching.specs.Pairing.{none, HasReport}
@@ -25,7 +25,7 @@ use Rattle.scoresheet.proofs.Due.{due-lies, due-is-due}
 use Rattle.laws.proofs.Places.{rising}
 use Rattle.walk.specs.Table.{pairedSlot, settledSlot, settledTable}
 use Rattle.walk.proofs.Settled.{rankOf, due-at-rank, settled-at}
-use Rattle.fates.specs.Fates.{paired, shownFrom, Handed, isFree, freeSlot, ownerOf, shownMark, slotOf, toldPaired, toldBy, toldUnpaired, toldOf, afterReport, reportNumbers, fatesOf, slotsOf}
+use Rattle.fates.specs.Fates.{paired, shownFrom, Handed, freeSlot, ownerOf, shownMark, slotOf, toldPaired, toldBy, toldUnpaired, toldOf, afterReport, reportNumbers, fatesOf, slotsOf}
 use Rattle.laws.proofs.Rounds.{told-at}
 use Rattle.fates.proofs.Telling.{fateOut, slotOut}
 use Rattle.fates.proofs.Starts.{tableAt}
@@ -160,7 +160,7 @@ one-slot-one-report i c h j k a b f g e =
 
 -- a slot that a pair settled is not free, and its track is shown from its third update on
 pub updated-held : (t : Track) (p : Report) (s : ℕ) → isFree (bytesOf (updatedOf t p s)) ≡ false
-unfolding isFree bytesOf updatedOf
+unfolding bytesOf updatedOf
 updated-held t p s = refl
 
 bytes-updates : (t : Track) → trackOf (bytesOf t) .updates ≡ t .updates

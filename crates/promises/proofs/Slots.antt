@@ -17,7 +17,7 @@ use Rattle.laws.proofs.Stores.{same-or}
 use Rattle.laws.proofs.Tests.{clash}
 use Rattle.records.specs.declared.Track.{Track}
 use Rattle.records.specs.Fields.{free, allowance, isWeak}
-use Rattle.records.specs.Bytes.{freed, markAt, bytesOf, reportOf}
+use Rattle.records.specs.Bytes.{freed, markAt, bytesOf, reportOf, isFree}
 use Rattle.records.proofs.Checked.{free-slot-not-due}
 use Rattle.settling.specs.Settle.{updatedOf, coastedOf, startedOf}
 use Rattle.settling.proofs.HandedOn.{coasted-keeps, coasted-drops}
@@ -28,7 +28,7 @@ use Rattle.scoresheet.proofs.Due.{due-lies, due-is-due}
 use Rattle.walk.specs.Table.{missedSlot, agedSlot, settledSlot, settledTable}
 use Rattle.walk.proofs.Slots.{missed-kept, missed-dropped}
 use Rattle.walk.proofs.Settled.{settled-length, settled-at}
-use Rattle.fates.specs.Fates.{started, Handed, isFree, freeSlot, ownerOf, toldPaired, toldUnpaired, toldOf, afterUnpaired, afterReport, reportNumbers, startedTable}
+use Rattle.fates.specs.Fates.{started, Handed, freeSlot, ownerOf, toldPaired, toldUnpaired, toldOf, afterUnpaired, afterReport, reportNumbers, startedTable}
 use Rattle.fates.proofs.Starts.{report-keeps, tableAt, length-at, start-elsewhere, held-at, held-slots-kept}
 use Rattle.sector.specs.declared.Counts.{Counts}
 use Rattle.sector.specs.Serve.{Lent, reportsIn, afterOf, ServedWith}
@@ -38,7 +38,7 @@ use Rattle.promises.proofs.Reports.{rank-is, settled-due, fate-is, slot
 -- ---- as pairing leaves a slot
 
 missed-held : (t : Track) (s : ℕ) → isFree (bytesOf (coastedOf t s)) ≡ false
-unfolding isFree bytesOf coastedOf
+unfolding bytesOf coastedOf
 missed-held t s = refl
 
 lies : (i : Input) (rank : ℕ) → rank < tracksOf i → dueSlot i rank < length (i .table)
@@ -67,7 +67,7 @@ abbrev newTrack : Handed → ℕ → List ℕ
 newTrack h j = bytesOf (startedOf (reportOf (getD (h .batch) j [])) (h .sector))
 
 new-held : (h : Handed) (j : ℕ) → isFree (newTrack h j) ≡ false
-unfolding isFree bytesOf startedOf
+unfolding bytesOf startedOf
 new-held h j = refl
 
 -- the lowest free slot is free
@@ -206,7 +206,6 @@ module _ (i : Input) (l l′ : Lent) (counts : Counts) (s : ServedWith i l l′ 
 
   -- So its bytes change only when a track starts there: free before and after, they are the same.
   pub free-slot-kept : (k : ℕ) → k < length (i .table) → at (getD (i .table) k []) markAt ≡ free → at (getD (l′ .table) k []) markAt ≡ free → getD (l′ .table) k [] ≡ getD (i .table) k []
-  unfolding isFree
   free-slot-kept k h m a =
       ⊎-elim (λ e. e) (λ w. absurd (clash (eq-eqb _ free a) (rw (w .1 .holds) (new-held (reportsIn i) (w .0))))) (free-slot-after k h m)
 

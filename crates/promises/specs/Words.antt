@@ -1,14 +1,12 @@
 -- What a call and its answer say: of one report, of one due track, of all of them; P is the pairing.
 use Prim.Native.Nat.{ℕ, _+_, _-_, _≤_, _<_}
 use mathlib.Core.Path.{_≡_}
-use mathlib.Core.Bool.{Bool, true}
+use mathlib.Core.Bool.{true}
 use mathlib.Core.Logic.{_⊎_}
 use mathlib.Core.List.{List, []}
-use lib.Dec.{eqb}
 use lib.ListN.{length, getD, take}
-use Rattle.laws.specs.Lists.{at, indicesFrom}
-use Rattle.records.specs.Fields.{held}
-use Rattle.records.specs.Bytes.{markAt, bytesOf, reportOf}
+use Rattle.laws.specs.Lists.{at, count}
+use Rattle.records.specs.Bytes.{bytesOf, reportOf, isHeld, isFree}
 use Rattle.settling.specs.Settle.{updatedOf, startedOf}
 use Rattle.matching.specs.Pairing.{pairs, scoreSum, Agree}
 use Rattle.engine.specs.declared.Paired.{Paired}
@@ -18,7 +16,7 @@ use Rattle.scoresheet.specs.declared.Sheeted.{Sheeted}
 use Rattle.scoresheet.specs.declared.Sheeted.the-variants as sheet-call
 use Rattle.scoresheet.specs.Cells.{tracksOf, reportsOf, dueSlot, dueTrack, sectorSheet}
 use Rattle.walk.specs.Table.{settledTable}
-use Rattle.fates.specs.Fates.{paired, started, shownFrom, isFree, slotsOf, shownOf}
+use Rattle.fates.specs.Fates.{paired, started, shownFrom, slotsOf, shownOf}
 use Rattle.sector.specs.declared.Counts.{Counts}
 use Rattle.sector.specs.declared.Served.{Served}
 use Rattle.sector.specs.declared.Served.the-variants.{Refused}
@@ -65,11 +63,8 @@ pub record TrackServed (i : Input) (P : List ℕ) (rank : ℕ) : Type 0 where
   pub shown : updatesBefore ≤ dueTrack i rank .updates → shownAt i P report ≡ 1
 
 -- how many slots of a table hold a track
-unfoldable pub isHeld : List ℕ → Bool
-isHeld slot = eqb (at slot markAt) held
-
 unfoldable pub heldCount : List (List ℕ) → ℕ
-heldCount table = length (indicesFrom isHeld 0 table)
+heldCount table = count isHeld table
 
 -- the due track of a rank, as the call leaves it: some report is told paired in its slot, is shown where the track had two updates or more, and
 -- the slot holds the track, updated by that report

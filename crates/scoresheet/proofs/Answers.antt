@@ -5,7 +5,7 @@ use mathlib.Core.Bool.{Bool, cond}
 use mathlib.Core.List.{List, _++_}
 use native.Mathlib.Omega.{arith}
 use borrow.Author.Tests.{le-leb, lt-leb}
-use lib.ListN.{length, take, drop, length-take}
+use lib.ListN.{length, take, drop}
 use lib.Seq.{length-take-le}
 use native.Mathlib.Nat.{mul-le-mul}
 use Rattle.intake.specs.Refusals.{Input, dueSlots, mostDue, mostBatch, faultOf, refusalOf, Ready, noRoom}
@@ -15,6 +15,7 @@ use Rattle.scoresheet.specs.declared.Sheeted.the-variants.{Refused, Shee
 use Rattle.scoresheet.specs.Cells.{cellsOf, tracksOf, reportsOf}
 use Rattle.scoresheet.specs.Ready.{RowsReady}
 use Rattle.scoresheet.specs.Call.{cellRoom, sheetedBy, sheetBy, sheetedOf, sheetAfter}
+use Rattle.laws.proofs.Parts.{listed-room}
 
 -- the answer r, and the sheet after the call
 abbrev pub Answers : Input → List ℕ → Sheeted → List ℕ → Type 0
@@ -61,7 +62,7 @@ pub record Listed (i : Input) (n : ℕ) (due : List ℕ) : Type 0 where
 pub listed : {i : Input} {n : ℕ} {due : List ℕ} → faultOf i ≡ 0 → n ≡ length (dueSlots (i .table)) → take n due ≡ dueSlots (i .table) → Listed i n due
 unfolding tracksOf
 listed {i} {n} {due} z c s =
-    record { no-fault = z; good = ready i z; count = c; slots = s; room = omega (arith, ap length s ∙ sym c, length-take n due) }
+    record { no-fault = z; good = ready i z; count = c; slots = s; room = listed-room _ _ c s }
 
 -- few enough cells to count
 pub few-cells : {i : Input} {n : ℕ} {due : List ℕ} → Listed i n due → n * length (i .batch) ≤ mostDue * mostBatch

@@ -1,18 +1,14 @@
 -- The call's own lists, cut to the due tracks and the reports.
 use Prim.Native.Nat.{ℕ, _*_, _≤_}
-use mathlib.Core.Path.{_≡_, sym, ap, _∙_}
+use mathlib.Core.Path.{_≡_, ap, _∙_}
 use mathlib.Core.List.{List}
 use native.Mathlib.Nat.{mul-le-mul}
 use native.Mathlib.Omega.{arith}
-use lib.ListN.{length, take, length-take}
+use lib.ListN.{length, take}
 use lib.Seq.{length-take-le}
 use Rattle.intake.specs.Refusals.{Input, dueSlots, mostDue, mostBatch, Ready}
 use Rattle.scoresheet.specs.Cells.{tracksOf, reportsOf}
 use Rattle.sector.specs.Steps.{Pairable}
-
--- a list has room for what its first n entries are
-pub listed-room : (xs ys : List ℕ) {n : ℕ} → n ≡ length ys → take n xs ≡ ys → n ≤ length xs
-listed-room xs ys {n} c s = omega (arith, ap length s ∙ sym c, length-take n xs)
 
 -- the call's due list, and how large it and its sheet get
 pub record DueListed (i : Input) (due : List ℕ) : Type 0 where

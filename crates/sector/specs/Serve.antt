@@ -86,6 +86,10 @@ tally fates coasted dropped scores = record {
   «score_sum» = scores;
 }
 
+-- in 01's order
+abbrev pub countList : Counts → List ℕ
+countList c = c .paired ∷ c .coasted ∷ c .dropped ∷ c .started ∷ c .weak ∷ c .full ∷ c .«score_sum» ∷ []
+
 -- counts of paired, coasted, dropped, started, weak, full; the sum of pair scores
 unfoldable pub countsOf : Input → List ℕ → Counts
 countsOf i P = tally (fatesIn i P) (coastedCount i (tracksOf i) P) (droppedCount i (tracksOf i) P) (scoreSum (sectorSheet i) (at P))

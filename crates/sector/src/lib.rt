@@ -1,8 +1,7 @@
 // The sector call: one call serves one sector.
 ghost use mathlib.Core.Path.{_≡_};
-ghost use mathlib.Core.List.{_++_};
 ghost use Prim.Native.Nat.{_*_, _<_, _≤_};
-ghost use lib.ListN.{length, take, drop};
+ghost use lib.ListN.{length, take};
 ghost use Rattle.numbers.specs.Sectors.{nextSector};
 ghost use Rattle.intake.specs.Refusals.{input, mostDue, mostBatch, dueSlots, Ready};
 ghost use Rattle.sector.specs.Steps.{Pairable, PairedUp, PairedOff, Room};

@@ -21,7 +21,7 @@ use Rattle.intake.specs.Refusals.{dueSlots}
 use Rattle.walk.specs.Table.{agedSlot}
 use Rattle.walk.proofs.Slots.{waits-on}
 use Rattle.sector.specs.Serve.{Lent}
-use Rattle.promises.proofs.Tallies.{count-places}
+use Rattle.laws.proofs.Counts.{count-places}
 use Rattle.turns.specs.Calls.{Accepted, HandsOn, Calls, no-more, one-more, slotAt, waiting, waitingCount}
 use Rattle.turns.proofs.Slot.{aged-held, ages, served-waits}
 use Rattle.turns.proofs.Again.{slots-kept, due-is, runs-out}

@@ -15,7 +15,7 @@ use Rattle.numbers.proofs.SectorLaws.{ahead-soonest}
 use Rattle.records.specs.declared.Track.{Track}
 use Rattle.records.specs.Fields.{free, held, WellFormed}
 use Rattle.laws.specs.Lists.{at}
-use Rattle.records.specs.Bytes.{freed, slotBytes, waitAt, markAt, trackOf, bytesOf, reportOf, slotDue}
+use Rattle.records.specs.Bytes.{freed, slotBytes, waitAt, markAt, trackOf, bytesOf, reportOf, slotDue, isFree}
 use Rattle.records.proofs.Checked.{slot-well-formed, sound}
 use Rattle.records.proofs.RoundTrips.{Bytes}
 use Rattle.settling.specs.declared.Missed.{Missed}
@@ -29,7 +29,7 @@ use Rattle.walk.specs.Ready.{SlotSettles}
 use Rattle.scoresheet.proofs.Due.{due-track}
 use Rattle.walk.proofs.Slots.{waits-on, aged-byte, missed-kept, missed-dropped}
 use Rattle.walk.proofs.Settled.{rankOf, track-mark, settled-at, settles-at}
-use Rattle.fates.specs.Fates.{Handed, isFree, freeSlot, afterReport, reportNumbers, startedTable}
+use Rattle.fates.specs.Fates.{Handed, freeSlot, afterReport, reportNumbers, startedTable}
 use Rattle.laws.proofs.Rounds.{all-keep}
 use Rattle.records.proofs.Packed.{mark-packed, well-packed}
 use Rattle.fates.proofs.Starts.{GoodReports, report-keeps}
@@ -48,11 +48,9 @@ pub wait-stored : (slot : List ℕ) (w : ℕ) → Bytes slotBytes slot → at (s
 wait-stored slot w b = getD-set-same slot waitAt w 0 (omega (arith, b .count))
 
 pub held-not-free : (slot : List ℕ) → at slot markAt ≡ held → isFree slot ≡ false
-unfolding isFree
 held-not-free slot e = rw e
 
 is-free : (slot : List ℕ) → eqb (at slot markAt) free ≡ true → isFree slot ≡ true
-unfolding isFree
 is-free slot e = e
 
 -- it is aged, whatever the pairing
@@ -98,7 +96,7 @@ fresh-free : (s : ℕ) (slot : List ℕ) → isFree slot ≡ true → JustServed
 fresh-free s slot e = record { served = λ f. absurd (clash e f) }
 
 freed-free : isFree freed ≡ true
-unfolding isFree freed
+unfolding freed
 freed-free = refl
 
 fresh-missed : (s : ℕ) (slot : List ℕ) → s < sectors → WellFormed (trackOf slot) s → JustServed s (missedSlot s slot)

@@ -8,7 +8,7 @@ use Rattle.laws.proofs.Tests.{clash}
 use Rattle.records.specs.declared.Track.{Track}
 use Rattle.records.specs.Fields.{held, allowance}
 use Rattle.laws.specs.Lists.{at}
-use Rattle.records.specs.Bytes.{markAt, trackOf, bytesOf, reportOf, slotDue}
+use Rattle.records.specs.Bytes.{markAt, trackOf, bytesOf, reportOf, slotDue, isFree}
 use Rattle.settling.specs.Settle.{updatedOf, coastedOf, startedOf}
 use Rattle.matching.specs.Pairing.{none, HasReport}
 use Rattle.intake.specs.Refusals.{Input}
@@ -16,7 +16,7 @@ use Rattle.scoresheet.specs.Cells.{tracksOf, reportsOf, dueSlot, dueTrack}
 use Rattle.scoresheet.proofs.Due.{due-lies, due-is-due}
 use Rattle.walk.specs.Table.{agedSlot, settledTable}
 use Rattle.walk.proofs.Settled.{rankOf, settled-at}
-use Rattle.fates.specs.Fates.{paired, started, isFree, ownerOf}
+use Rattle.fates.specs.Fates.{paired, started, ownerOf}
 use Rattle.records.proofs.Packed.{mark-packed}
 use Rattle.sector.specs.declared.Counts.{Counts}
 use Rattle.sector.specs.Serve.{Lent, handedIn}

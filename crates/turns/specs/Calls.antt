@@ -5,13 +5,13 @@ use mathlib.Core.Bool.{Bool, true, _&&_}
 use mathlib.Core.List.{List, []}
 use lib.Dec.{eqb}
 use lib.ListN.{length, getD, set}
-use Rattle.laws.specs.Lists.{at, indicesFrom}
+use Rattle.laws.specs.Lists.{at, count}
 use Rattle.numbers.specs.Scales.{sectors, soonest}
 use Rattle.numbers.specs.Sectors.{sectorOf, nextSector}
 use Rattle.records.specs.declared.Site.{Site}
 use Rattle.records.specs.declared.Track.{Track}
 use Rattle.records.specs.Fields.{held, waitMost, trackFields}
-use Rattle.records.specs.Bytes.{waitAt, markAt, trackOf, bytesOf, badSlotField, slotDue}
+use Rattle.records.specs.Bytes.{waitAt, markAt, trackOf, bytesOf, badSlotField, slotDue, isHeld}
 use Rattle.fates.specs.Fates.{paired, started}
 use Rattle.sector.specs.declared.Served.{Served}
 use Rattle.sector.specs.Serve.{Lent, handedIn, sectorRefusal, ServesSector}
@@ -98,8 +98,8 @@ pub record DueAt (j : ℕ) (l l′ : Lent) (k : ℕ) : Type 0 where
 
 -- a slot that holds a track which waits n calls
 unfoldable pub waiting : ℕ → List ℕ → Bool
-waiting n slot = eqb (at slot markAt) held && eqb n (at slot waitAt)
+waiting n slot = isHeld slot && eqb n (at slot waitAt)
 
 -- how many of a table's tracks do
 unfoldable pub waitingCount : ℕ → List (List ℕ) → ℕ
-waitingCount n table = length (indicesFrom (waiting n) 0 table)
+waitingCount n table = count (waiting n) table

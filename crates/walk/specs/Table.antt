@@ -6,8 +6,7 @@ use lib.Dec.{eqb}
 use lib.ListN.{getD}
 use Rattle.laws.specs.Lists.{at, outs}
 use Rattle.laws.specs.Sums.{Sum}
-use Rattle.records.specs.Fields.{held}
-use Rattle.records.specs.Bytes.{freed, markAt, trackOf, bytesOf, reportOf, slotDue}
+use Rattle.records.specs.Bytes.{freed, trackOf, bytesOf, reportOf, slotDue, isHeld}
 use Rattle.settling.specs.declared.Missed.{Missed}
 use Rattle.settling.specs.declared.Missed.the-variants.{Coasts, Dropped}
 use Rattle.settling.specs.Settle.{updatedOf, withoutPair, agedOf}
@@ -28,7 +27,7 @@ missedSlot sector slot = missedBytes (withoutPair (trackOf slot) sector)
 
 -- a slot that is not due: other held tracks lose 1 from their wait, a free slot keeps its bytes
 unfoldable pub agedSlot : List ℕ → List ℕ
-agedSlot slot = cond (eqb (at slot markAt) held) (bytesOf (agedOf (trackOf slot))) slot
+agedSlot slot = cond (isHeld slot) (bytesOf (agedOf (trackOf slot))) slot
 
 -- a due slot stays for its service; any other ages
 unfoldable pub restedSlot : List ℕ → List ℕ

@@ -4,10 +4,11 @@ use mathlib.Core.List.{[]}
 use lib.ListN.{length}
 use borrow.Author.Tests.{eq-eqb, ne-eqb}
 use Rattle.laws.proofs.Search.{Passed, passed-more, passed-stop, passed-end}
-use Rattle.fates.specs.Fates.{isFree, freeSlot}
+use Rattle.fates.specs.Fates.{freeSlot}
 use Rattle.laws.proofs.Rounds.{passed-from}
 use Rattle.fates.proofs.free_from.Statement.{statement}
 use Rattle.fates.proofs.free_from.Tie as tie
+use Rattle.records.specs.Bytes.{isFree}
 
 abbrev Inv-loop : tie.InvT-loop
 Inv-loop table from k₀ k = Passed isFree table k
@@ -29,7 +30,7 @@ array-read-if1 : tie.Need-array-read-if1 Inv-loop μ-loop
 array-read-if1 c = search needs
 
 returns : tie.Need-returns Inv-loop μ-loop
-unfolding freeSlot isFree
+unfolding freeSlot
 returns c = passed-stop isFree [] (c .before .before .before .loop .inv) (c .before .before .loop-test .taken) (eq-eqb _ _ (c .if1 .taken))
 
 add-k : tie.Need-add-k Inv-loop μ-loop
@@ -39,7 +40,6 @@ loop-less : tie.Need-loop-less Inv-loop μ-loop
 loop-less c = search needs
 
 loop-again : tie.Need-loop-again Inv-loop μ-loop
-unfolding isFree
 loop-again c = passed-more isFree [] (c .before .before .before .loop .inv) (c .before .before .loop-test .taken) (ne-eqb _ _ (c .if1 .left))
 
 returns-2 : tie.Need-returns-2 Inv-loop μ-loop

@@ -1,10 +1,8 @@
 use borrow.Author.Needs.{needs}
-use Rattle.plotunit.specs.Calls.{countList}
 use Rattle.plotunit.proofs.write_counts.Statement.{statement}
 use Rattle.plotunit.proofs.write_counts.Tie as tie
 
 returns : tie.Need-returns
-unfolding countList
 returns c = search needs
 
 pub write-counts-spec : {M : Type 1} → statement M

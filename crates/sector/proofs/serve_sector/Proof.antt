@@ -5,7 +5,7 @@ use Rattle.intake.proofs.Readiness.{ready}
 use Rattle.scoresheet.specs.Cells.{reportsOf}
 use Rattle.sector.specs.Serve.{roomFor}
 use Rattle.sector.proofs.Answering.{room-facts, by-fault, by-room, by-serving}
-use Rattle.sector.proofs.Lists.{listed-room}
+use Rattle.laws.proofs.Parts.{listed-room}
 use borrow.Author.Needs.{needs}
 use Rattle.sector.proofs.serve_sector.Statement.{statement}
 use Rattle.sector.proofs.serve_sector.Tie as tie

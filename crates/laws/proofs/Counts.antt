@@ -8,17 +8,13 @@ use native.Mathlib.Numerals.{add-one}
 use native.Mathlib.Omega.{arith}
 use lib.ListN.{length, getD, take, set}
 use lib.Seq.{take-suc, take-length}
-use Rattle.laws.specs.Lists.{indicesFrom, afterAll, outs}
+use Rattle.laws.specs.Lists.{indicesFrom, count, afterAll, outs}
 use Rattle.laws.specs.Sums.{Sum}
 use Rattle.laws.proofs.Search.{Counted, counted-none, counted-more, counted-end}
 use Rattle.laws.proofs.Rounds.{count-from}
 
--- how many of a list are of the kind
 module _ {A : Type 0} (p : A → Bool) where
-  abbrev pub count : List A → ℕ
-  count xs = length (indicesFrom p 0 xs)
-
-  pub count-cons : (x : A) (xs : List A) → count (x ∷ xs) ≡ cond (p x) 1 0 + count xs
+  pub count-cons : (x : A) (xs : List A) → count p (x ∷ xs) ≡ cond (p x) 1 0 + count p xs
   unfolding indicesFrom
   count-cons x xs = go (p x)
     where
@@ -26,11 +22,11 @@ module _ {A : Type 0} (p : A → Bool) where
       go true = omega (arith, count-from p 1 0 xs)
       go false = omega (arith, count-from p 1 0 xs)
 
-  pub count-none : count [] ≡ 0
+  pub count-none : count p [] ≡ 0
   unfolding indicesFrom
   count-none = refl
 
-  count-last : (xs : List A) (x : A) → count (xs ++ (x ∷ [])) ≡ count xs + cond (p x) 1 0
+  count-last : (xs : List A) (x : A) → count p (xs ++ (x ∷ [])) ≡ count p xs + cond (p x) 1 0
   count-last [] x = omega (arith, count-cons x [], count-none)
   count-last (y ∷ xs) x = omega (arith, count-cons y (xs ++ (x ∷ [])), count-cons y xs, count-last xs x)
 
@@ -40,25 +36,25 @@ module _ {A : Type 0} (p : A → Bool) where
   counted-upto xs d zero h = counted-none p xs
   counted-upto xs d (suc i) h = rw add-one at (counted-more p d (counted-upto xs d i (omega arith)) h refl)
 
-  pub count-places : (xs : List A) (d : A) → count xs ≡ Sum (length xs) (λ k. cond (p (getD xs k d)) 1 0)
+  pub count-places : (xs : List A) (d : A) → count p xs ≡ Sum (length xs) (λ k. cond (p (getD xs k d)) 1 0)
   count-places xs d = sym (counted-end p (counted-upto xs d (length xs) (le-refl _)) (le-refl _))
 
   -- over the ranks: what each of the kind gives by its rank comes to what the ranks give
-  ranked-upto : (xs : List A) (d : A) (g : ℕ → ℕ) (m : ℕ) → m ≤ length xs → Sum m (λ k. cond (p (getD xs k d)) (g (count (take k xs))) 0) ≡ Sum (count (take m xs)) g
+  ranked-upto : (xs : List A) (d : A) (g : ℕ → ℕ) (m : ℕ) → m ≤ length xs → Sum m (λ k. cond (p (getD xs k d)) (g (count p (take k xs))) 0) ≡ Sum (count p (take m xs)) g
   unfolding Sum
   ranked-upto xs d g zero h = rw count-none
   ranked-upto xs d g (suc m) h =
       rw (ranked-upto xs d g m (omega arith), take-suc xs m d h, count-last (take m xs) (getD xs m d)) (go (p (getD xs m d)))
     where
-      go : (b : Bool) → Sum (count (take m xs)) g + cond b (g (count (take m xs))) 0 ≡ Sum (count (take m xs) + cond b 1 0) g
+      go : (b : Bool) → Sum (count p (take m xs)) g + cond b (g (count p (take m xs))) 0 ≡ Sum (count p (take m xs) + cond b 1 0) g
       go true = rw add-one
       go false = simp add-zero
 
-  pub sum-by-rank : (xs : List A) (d : A) (g : ℕ → ℕ) → Sum (length xs) (λ k. cond (p (getD xs k d)) (g (count (take k xs))) 0) ≡ Sum (count xs) g
-  sum-by-rank xs d g = ranked-upto xs d g (length xs) (le-refl _) ∙ ap (λ (ys : List A). Sum (count ys) g) (take-length xs)
+  pub sum-by-rank : (xs : List A) (d : A) (g : ℕ → ℕ) → Sum (length xs) (λ k. cond (p (getD xs k d)) (g (count p (take k xs))) 0) ≡ Sum (count p xs) g
+  sum-by-rank xs d g = ranked-upto xs d g (length xs) (le-refl _) ∙ ap (λ (ys : List A). Sum (count p ys) g) (take-length xs)
 
   -- an element that becomes one of the kind counts one more
-  pub count-set : (xs : List A) (k : ℕ) (v d : A) → k < length xs → p (getD xs k d) ≡ false → p v ≡ true → count (set xs k v) ≡ count xs + 1
+  pub count-set : (xs : List A) (k : ℕ) (v d : A) → k < length xs → p (getD xs k d) ≡ false → p v ≡ true → count p (set xs k v) ≡ count p xs + 1
   count-set [] k v d h f t = absurd (not-suc-le-zero h)
   count-set (x ∷ xs) zero v d h f t = rw (count-cons v xs, count-cons x xs, f, t) (omega arith)
   count-set (x ∷ xs) (suc k) v d h f t = omega (arith, count-cons x (set xs k v), count-cons x xs, count-set xs k v d (le-of-suc-le-suc h) f t)
