@@ -7,7 +7,7 @@ use passes::fill;
 use passes::free_report;
 use passes::row_best;
 use paths::insert;
-use queue::take_turns;
+use queue::insert_all;
 ghost use mathlib.Core.Path.{_≡_};
 ghost use Prim.Native.Nat.{ℕ, _<_};
 ghost use lib.ListN.{length};
@@ -96,7 +96,7 @@ fn claim(
     owner[j] = track;
 }
 
-// Every track claims in turn.
+// Every track claims, one after another.
 fn claim_all(
     sheet: &[u32],
     reports: usize,
@@ -180,7 +180,7 @@ fn clear(
     fill(discounts, 0);
 }
 
-// The claims and the turns.
+// The claims, and the insertion of those that got nothing.
 fn match_all(
     sheet: &[u32],
     reports: usize,
@@ -198,7 +198,7 @@ fn match_all(
 {
     clear(sheet, reports, pairing, owner, prices, discounts);
     claim_all(sheet, reports, pairing, owner, prices, discounts);
-    take_turns(
+    insert_all(
         sheet,
         reports,
         pairing,

@@ -122,21 +122,21 @@ pub fn highest(prices: &[u32]) -> u32
     best
 }
 
-// A track with a report, or left out at the full price, takes no turn.
-fn if_unpaired(pairing: u32, price: u32, turn: u32) -> u32
+// A track with a report, or left out at the full price, is not in the queue.
+fn if_unpaired(pairing: u32, price: u32, key: u32) -> u32
     requires { ⌜ price ≤ leftOut ⌝ }
-    ensures { λ r. ⌜ (r ≤ turn) × (0 < r → (r ≡ turn) × (pairing ≡ none)) ⌝ }
+    ensures { λ r. ⌜ (r ≤ key) × (0 < r → (r ≡ key) × (pairing ≡ none)) ⌝ }
 {
     if pairing == NONE {
         if (price as i32) < (LEFT_OUT as i32) {
-            return turn;
+            return key;
         }
     }
     0
 }
 
-// A price and its track in one key, and one more: 0 is no turn.
-fn turn_of(price: u32, track: u32) -> u32
+// A price and its track in one key, and one more: 0 is no track.
+fn queue_key(price: u32, track: u32) -> u32
     requires { ⌜ track < mostTracks ⌝ }
     ensures { λ r. ⌜ (r < 2 ^ 31) × ((r - 1) % keyPlaces ≡ track) ⌝ }
 {
@@ -144,7 +144,7 @@ fn turn_of(price: u32, track: u32) -> u32
 }
 
 // One more than the track of highest price, the most exacting, of those without a report; 0 if there is none.
-pub fn next_turn(pairing: &[u32], prices: &[u32]) -> u32
+pub fn next_track(pairing: &[u32], prices: &[u32]) -> u32
     requires { ⌜ (length (now pairing) ≡ length (now prices)) × ((length (now prices) ≤ mostTracks) × Small (now prices)) ⌝ }
     ensures { λ r. ⌜ (0 < r → (r - 1 < length (now (prices .entry))) × (at (now (pairing .entry)) (r - 1) ≡ none)) ⌝ }
 {
@@ -153,7 +153,7 @@ pub fn next_turn(pairing: &[u32], prices: &[u32]) -> u32
     while j < prices.len() {
         let price = prices[j];
         best = greater(
-            if_unpaired(pairing[j], price, turn_of(price, j as u32)),
+            if_unpaired(pairing[j], price, queue_key(price, j as u32)),
             best,
         );
         j += 1;

@@ -135,12 +135,12 @@ module _ {cells : List ℕ} {m track : ℕ} {pairing owner prices discounts : Li
       own-j = ⊎-elim (λ a. absurd (clash {b = not (eqb (at owner j) none)} (and-right (ltb j (length owner)) _ t) (rw (eq-eqb (at owner j) none (a .0)) refl))) (λ o. o) (G .matched .owned j next-in (λ e. omega (arith, next-in, G .shape .reports-few)))
 
       -- place is the track that has report j, as an index; leaving′ and leaver′ are what leaving a track out then costs, and which
-      pub turn : {place leaving′ leaver′ : ℕ} {labels′ via′ : List ℕ} → place ≡ at owner j → let cost = at labels j + (leftOut - at prices place) in
+      pub passed-on : {place leaving′ leaver′ : ℕ} {labels′ via′ : List ℕ} → place ≡ at owner j → let cost = at labels j + (leftOut - at prices place) in
           (leaving′ ≤ cost) × ((leaving′ ≤ leaving) × ((cost < leaving → leaving′ ≡ cost) × (leaving ≤ cost → leaving′ ≡ leaving)))
           → (cost < leaving → leaver′ ≡ at owner j) × (leaving ≤ cost → leaver′ ≡ leaver)
           → Offered cells m discounts (at labels j) (at prices (at owner j)) (at owner j) labels via labels′ via′
           → Tree cells m (length prices) pairing owner prices discounts track leaving′ leaver′ (k + 1) labels′ via′ (closedAt closings j k)
-      turn {place} {leaving′} {leaver′} q L K S′ =
+      passed-on {place} {leaving′} {leaver′} q L K S′ =
           let cost = at labels j + (leftOut - at prices place) in
           let e : cost + at prices (at owner j) ≡ at labels j + leftOut = omega (arith, ap (at prices) q, G .numbers .price-in (at owner j) (own-j .there)) in
           advance T next-in (pop-open next-in) (G .numbers) (pop-low next-in) (pop-near next-in) own-j

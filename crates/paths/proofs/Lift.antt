@@ -110,8 +110,8 @@ module _ {cells : List ℕ} {m track : ℕ} {pairing owner prices discounts labe
         (λ a. inr (a .0, (a .1 .0, ⊎-elim (λ z. absurd (omega arith)) (λ b. b) (a .1 .1 .0)))) (x .how);
   }
 
-  turned-track : Finishable cells m n prices₂ discounts₁ track via closings report leaver pairing owner
-  turned-track = record {
+  finishable-track : Finishable cells m n prices₂ discounts₁ track via closings report leaver pairing owner
+  finishable-track = record {
     shape = shape₂;
     via-long = E .via-long;
     closings-long = E .closings-long;
@@ -170,8 +170,8 @@ module _ {cells : List ℕ} {m track : ℕ} {pairing owner prices discounts labe
     prices-now-long : length prices-now ≡ length prices
     prices-now-long = simp length-set (PU .prices-long)
 
-    pub turned : Finishable cells m (length prices-now) prices-now discounts₁ track via closings report leaver pairing owner
-    turned = subst (λ (k : ℕ). Finishable cells m k prices-now discounts₁ track via closings report leaver pairing owner) (sym prices-now-long) (rw e turned-track)
+    pub finishable : Finishable cells m (length prices-now) prices-now discounts₁ track via closings report leaver pairing owner
+    finishable = subst (λ (k : ℕ). Finishable cells m k prices-now discounts₁ track via closings report leaver pairing owner) (sym prices-now-long) (rw e finishable-track)
 
     module _ {pairing′ owner′ : List ℕ} (S : Settled cells m (length prices-now) prices-now discounts₁ track pairing owner pairing′ owner′) where
       settled-track : Settled cells m n prices₂ discounts₁ track pairing owner pairing′ owner′

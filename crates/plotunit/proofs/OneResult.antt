@@ -12,13 +12,13 @@ use Rattle.engine.proofs.Theorems.{same-call}
 use Rattle.intake.specs.Refusals.{Input}
 use Rattle.sector.specs.declared.Served.{Served}
 use Rattle.sector.specs.Serve.{Lent, sectorRefusal}
-use Rattle.promises.proofs.Calls.{settled}
+use Rattle.promises.proofs.Calls.{same-choice-same-result}
 use Rattle.plotunit.specs.Calls.{servedNumber, servedCounts, ServesForC, ScoresForC, pairedNumber, PairsForC}
 
 -- plot_serve_sector: refused, or served by the same choice, two results agree in the number, the counts and every lent byte.
 pub one-serve : {i : Input} {l l₁ l₂ : Lent} {counts c₁ c₂ : List ℕ} {n₁ n₂ : ℕ} (R : ServesForC i l l₁ counts c₁ n₁) (Q : ServesForC i l l₂ counts c₂ n₂) → ((e : sectorRefusal i l ≡ 0) → R .promised .served e .chosen ≡ Q .promised .served e .chosen) → (n₁ ≡ n₂) × ((c₁ ≡ c₂) × (l₁ ≡ l₂))
 one-serve {i} {l} {l₁} {l₂} {counts} R Q same =
-    let w = settled i l l₁ l₂ (R .answer) (Q .answer) (R .promised) (Q .promised) same in (
+    let w = same-choice-same-result i l l₁ l₂ (R .answer) (Q .answer) (R .promised) (Q .promised) same in (
       R .numbered ∙ ap servedNumber (w .1) ∙ sym (Q .numbered),
       (R .counted ∙ ap (λ (a : Served). servedCounts a counts) (w .1) ∙ sym (Q .counted), w .0),
     )

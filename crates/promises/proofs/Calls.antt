@@ -49,8 +49,8 @@ done-otherwise i l l′ answer R e = (R .counts, answers-done R e)
 -- ---- what is settled
 
 -- Two results of one call whose pairing, prices and discounts are the same are the same in every byte and in the answer.
-pub settled : (i : Input) (l l₁ l₂ : Lent) (a₁ a₂ : Served) (R : ServesSector i l l₁ a₁) (Q : ServesSector i l l₂ a₂) → ((e : sectorRefusal i l ≡ 0) → R .served e .chosen ≡ Q .served e .chosen) → (l₁ ≡ l₂) × (a₁ ≡ a₂)
-settled i l l₁ l₂ a₁ a₂ R Q same =
+pub same-choice-same-result : (i : Input) (l l₁ l₂ : Lent) (a₁ a₂ : Served) (R : ServesSector i l l₁ a₁) (Q : ServesSector i l l₂ a₂) → ((e : sectorRefusal i l ≡ 0) → R .served e .chosen ≡ Q .served e .chosen) → (l₁ ≡ l₂) × (a₁ ≡ a₂)
+same-choice-same-result i l l₁ l₂ a₁ a₂ R Q same =
     ⊎-elim
     (λ z.
     let r = R .served z in

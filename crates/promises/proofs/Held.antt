@@ -122,7 +122,7 @@ free-not-held slot e =
 start-adds : (p : Report) (s : ℕ) (table : List (List ℕ)) → freeSlot table < length table → heldCount (set table (freeSlot table) (bytesOf (startedOf p s))) ≡ heldCount table + 1
 unfolding heldCount freeSlot startedOf
 start-adds p s table l =
-    count-set isHeld table (firstIndex isFree table) (bytesOf (startedOf p s)) [] l (free-not-held _ (first-found isFree table [] l)) (held-bytes (startedOf p s) refl)
+    count-set isHeld table (firstIndex isFree table) (bytesOf (startedOf p s)) [] l (free-not-held (getD table (firstIndex isFree table) []) (first-found isFree table [] l)) (held-bytes (startedOf p s) refl)
 
 -- a report without a pair holds one slot more exactly where its fate is started
 unpaired-adds : (p : Report) (s : ℕ) (table : List (List ℕ)) → heldCount (afterUnpaired p s table) ≡ heldCount table + cond (eqb started (toldUnpaired p table .fate)) 1 0

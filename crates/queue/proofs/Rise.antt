@@ -119,7 +119,7 @@ module _ (cells : List ℕ) (m n : ℕ) (pairing owner prices discounts slack : 
     };
   }
 
--- a turn's search tightens the slacks
+-- an insertion's search tightens the slacks
 module _ (cells : List ℕ) (m n track : ℕ) (pairing owner prices discounts slack : List ℕ) (L : Lifting cells m n pairing owner prices discounts slack)
     (pairing′ owner′ prices′ discounts′ labels : List ℕ) (reach : ℕ) (I : Inserted cells m n track pairing prices pairing′ owner′ prices′ discounts′)
     (R : Reached cells m n pairing owner prices labels reach pairing′ owner′ prices′) where
@@ -130,8 +130,8 @@ module _ (cells : List ℕ) (m n track : ℕ) (pairing owner prices discounts sl
     small = L .slacks .small;
   }
 
-  pub turned : (slack′ : List ℕ) → Tightened labels reach slack slack′ → Lifting cells m n pairing′ owner′ prices′ discounts′ slack′
-  turned slack′ T = record {
+  pub tightened-after : (slack′ : List ℕ) → Tightened labels reach slack slack′ → Lifting cells m n pairing′ owner′ prices′ discounts′ slack′
+  tightened-after slack′ T = record {
     good = I .good;
     slacks = record {
       slack-long = T .slack-long ∙ L .slacks .slack-long;

@@ -1,9 +1,10 @@
-// The tracks without a report take turns, the most exacting first. Once a search has gone a long way, the prices of all pairs rise
-// together before each turn as far as the free reports allow: then the next search meets a free report before it goes through them.
+// The tracks without a report stand in a queue, the most exacting first, and are inserted one by one. Once a search has gone a long
+// way, the prices of all pairs rise together before each insertion as far as the free reports allow: then the next search meets a free
+// report before it goes through them.
 use lifting::bound_slack;
 use lifting::highest;
 use lifting::least_slack;
-use lifting::next_turn;
+use lifting::next_track;
 use lifting::raise_paired;
 use lifting::spend;
 use lifting::tighten;
@@ -98,8 +99,8 @@ fn lift(
     spend(slack, rise);
 }
 
-// One turn, after all pairs have risen.
-fn lifted_turn(
+// One track is inserted, after all pairs have risen.
+fn lifted_insert(
     sheet: &[u32],
     reports: usize,
     track: u32,
@@ -132,8 +133,8 @@ fn lifted_turn(
     tighten(labels, reach, slack);
 }
 
-// Turns until no track is without a report.
-fn lifted_turns(
+// Insertions until no track is in the queue.
+fn lifted_inserts(
     sheet: &[u32],
     reports: usize,
     pairing: &mut [u32],
@@ -150,14 +151,14 @@ fn lifted_turns(
 {
     let mut round: usize = 0;
     while round < prices.len() {
-        let turn = next_turn(pairing, prices);
-        if turn == 0 {
+        let next = next_track(pairing, prices);
+        if next == 0 {
             return;
         }
-        lifted_turn(
+        lifted_insert(
             sheet,
             reports,
-            turn - 1,
+            next - 1,
             pairing,
             owner,
             prices,
@@ -183,8 +184,8 @@ fn next_round(round: usize, rounds: usize, closed: u32) -> usize
     }
 }
 
-// Turns until no track is without a report, or a search was long.
-fn first_turns(
+// Insertions until no track is in the queue, or a search was long.
+fn first_inserts(
     sheet: &[u32],
     reports: usize,
     pairing: &mut [u32],
@@ -200,14 +201,14 @@ fn first_turns(
 {
     let mut round: usize = 0;
     while round < prices.len() {
-        let turn = next_turn(pairing, prices);
-        if turn == 0 {
+        let next = next_track(pairing, prices);
+        if next == 0 {
             return;
         }
         let r = insert(
             sheet,
             reports,
-            turn - 1,
+            next - 1,
             pairing,
             owner,
             prices,
@@ -221,8 +222,8 @@ fn first_turns(
     }
 }
 
-// The turns that are left, if any, with all pairs rising before each.
-fn later_turns(
+// The insertions that are left, if any, with all pairs rising before each.
+fn later_inserts(
     sheet: &[u32],
     reports: usize,
     pairing: &mut [u32],
@@ -237,12 +238,12 @@ fn later_turns(
     requires { ⌜ Good (now sheet) reports (length (now prices)) (now pairing) (now owner) (now prices) (now discounts) × (Rooms reports (now labels) (now via) (now closings) × (length (now slack) ≡ reports)) ⌝ }
     ensures { λ _. ⌜ Good (now (sheet .entry)) reports (length (now (prices .entry))) (now (pairing .exit)) (now (owner .exit)) (now (prices .exit)) (now (discounts .exit)) ⌝ }
 {
-    if next_turn(pairing, prices) == 0 {
+    if next_track(pairing, prices) == 0 {
         return;
     }
     fill(slack, LEFT_OUT);
     bound_by_pairs(sheet, reports, pairing, owner, prices, discounts, slack);
-    lifted_turns(
+    lifted_inserts(
         sheet,
         reports,
         pairing,
@@ -256,8 +257,8 @@ fn later_turns(
     );
 }
 
-// Every track without a report takes its turn. Which one is first decides the time, not what is found.
-pub fn take_turns(
+// Every track in the queue is inserted. Which one is first decides the time, not what is found.
+pub fn insert_all(
     sheet: &[u32],
     reports: usize,
     pairing: &mut [u32],
@@ -272,7 +273,7 @@ pub fn take_turns(
     requires { ⌜ Good (now sheet) reports (length (now prices)) (now pairing) (now owner) (now prices) (now discounts) × (Rooms reports (now labels) (now via) (now closings) × (length (now slack) ≡ reports)) ⌝ }
     ensures { λ _. ⌜ Good (now (sheet .entry)) reports (length (now (prices .entry))) (now (pairing .exit)) (now (owner .exit)) (now (prices .exit)) (now (discounts .exit)) ⌝ }
 {
-    first_turns(
+    first_inserts(
         sheet,
         reports,
         pairing,
@@ -283,7 +284,7 @@ pub fn take_turns(
         via,
         closings,
     );
-    later_turns(
+    later_inserts(
         sheet,
         reports,
         pairing,

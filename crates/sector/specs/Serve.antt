@@ -34,8 +34,8 @@ lent table sector fates slots shown discounts prices =
     record { table = table; sector = sector; fates = fates; slots = slots; shown = shown; discounts = discounts; prices = prices }
 
 -- what the call reads
-abbrev pub handedIn : Lent → Site → List (List ℕ) → Input
-handedIn l site batch = input (l .table) (l .sector) site batch
+abbrev pub inputOf : Lent → Site → List (List ℕ) → Input
+inputOf l site batch = input (l .table) (l .sector) site batch
 
 -- room for a fate, slot, shown mark and discount per report and a price per slot
 unfoldable pub rooms : (reports table : ℕ) (fates slots shown discounts prices : ℕ) → List Bool

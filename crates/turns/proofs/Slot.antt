@@ -33,7 +33,7 @@ use Rattle.fates.specs.Fates.{Handed, freeSlot, afterReport, reportNumbers, sta
 use Rattle.laws.proofs.Rounds.{all-keep}
 use Rattle.records.proofs.Packed.{mark-packed, well-packed}
 use Rattle.fates.proofs.Starts.{GoodReports, report-keeps}
-use Rattle.sector.specs.Serve.{Lent, handedIn, reportsIn}
+use Rattle.sector.specs.Serve.{Lent, inputOf, reportsIn}
 use Rattle.promises.proofs.Slots.{left-slot, kept}
 use Rattle.turns.specs.Calls.{Accepted, slotAt, WaitsOn, ServedIn, TurnSet}
 use Rattle.turns.proofs.Table.{outcome, was-ready, names, good-reports}
@@ -50,9 +50,6 @@ wait-stored slot w b = getD-set-same slot waitAt w 0 (omega (arith, b .count))
 pub held-not-free : (slot : List ℕ) → at slot markAt ≡ held → isFree slot ≡ false
 held-not-free slot e = rw e
 
-is-free : (slot : List ℕ) → eqb (at slot markAt) free ≡ true → isFree slot ≡ true
-is-free slot e = e
-
 -- it is aged, whatever the pairing
 pub not-due-ages : (s : ℕ) (batch : List (List ℕ)) (P slot : List ℕ) (rank : ℕ) → slotDue slot ≡ false → settledSlot s batch P slot rank ≡ agedSlot slot
 unfolding settledSlot
@@ -65,10 +62,10 @@ aged-held slot m = rw (eq-eqb (at slot markAt) held m, mark-packed (agedOf (trac
 
 -- a slot that holds a track at entry and is not due is aged
 pub ages : {l l′ : Lent} → Accepted l l′ → (k : ℕ) → k < length (l .table) → at (slotAt l k) markAt ≡ held → slotDue (slotAt l k) ≡ false → slotAt l′ k ≡ agedSlot (slotAt l k)
-ages {l} {l′} a k h m d = kept i l l′ _ (outcome a) k (rw aged (held-not-free _ (aged-held (slotAt l k) m))) ∙ aged
+ages {l} {l′} a k h m d = kept i l l′ _ (outcome a) k (rw aged (held-not-free (agedSlot (slotAt l k)) (aged-held (slotAt l k) m))) ∙ aged
   where
     i : Input
-    i = handedIn l (a .site) (a .batch)
+    i = inputOf l (a .site) (a .batch)
 
     aged : getD (settledTable i (outcome a .chosen .pairing)) k [] ≡ agedSlot (slotAt l k)
     aged = settled-at i _ k h ∙ not-due-ages (i .sector) (i .batch) _ (slotAt l k) (rankOf (i .table) k) d
@@ -112,7 +109,7 @@ unfolding agedSlot
 fresh-aged {s} {batch} {P} {slot} {rank} w n = rw (ne-eqb (at slot markAt) held n) (go (eqb (at slot markAt) free) refl)
   where
     go : (b : Bool) → eqb (at slot markAt) free ≡ b → JustServed s slot
-    go true e = fresh-free s slot (is-free slot e)
+    go true e = fresh-free s slot e
     go false e = absurd (n (track-mark slot (slot-well-formed slot s (w .slot-good) (eqb-false (at slot markAt) free e) .is-held)))
 
 -- so every slot that did not hold a waiting track, as pairing leaves it
@@ -157,7 +154,7 @@ served-waits {l} {l′} a k w = record {
 }
   where
     i : Input
-    i = handedIn l (a .site) (a .batch)
+    i = inputOf l (a .site) (a .batch)
 
     P : List ℕ
     P = outcome a .chosen .pairing

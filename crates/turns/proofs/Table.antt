@@ -26,7 +26,7 @@ use Rattle.walk.proofs.Settled.{settled-length, settled-good}
 use Rattle.fates.proofs.Starts.{AllGood, GoodReports, started-length, started-good}
 use Rattle.sector.specs.declared.Served.{Served}
 use Rattle.sector.specs.declared.Served.the-variants.{Refused}
-use Rattle.sector.specs.Serve.{ServedWith, ServesSector, Lent, handedIn, roomFor, sectorRefusal, Chosen, Choice, reportsIn, afterOf}
+use Rattle.sector.specs.Serve.{ServedWith, ServesSector, Lent, inputOf, roomFor, sectorRefusal, Chosen, Choice, reportsIn, afterOf}
 use Rattle.promises.proofs.Calls.{refused-exactly-when}
 use Rattle.promises.proofs.Together.{by-fault}
 use Rattle.turns.specs.Calls.{Accepted, HandsOn, LeftGood, OfTable, is-1, is-2, is-4}
@@ -64,18 +64,18 @@ handed-on-good i l c r q = record {
 -- ---- an accepted call
 
 -- what was promised of it: its choice, and what it left
-abbrev pub outcome : {l l′ : Lent} (a : Accepted l l′) → ServedWith (handedIn l (a .site) (a .batch)) l l′ (a .promise .counts)
+abbrev pub outcome : {l l′ : Lent} (a : Accepted l l′) → ServedWith (inputOf l (a .site) (a .batch)) l l′ (a .promise .counts)
 outcome a = a .promise .served (a .not-refused)
 
 -- and it was ready
-pub was-ready : {l l′ : Lent} (a : Accepted l l′) → Ready (handedIn l (a .site) (a .batch))
+pub was-ready : {l l′ : Lent} (a : Accepted l l′) → Ready (inputOf l (a .site) (a .batch))
 unfolding sectorRefusal
-was-ready {l} a = let i : Input = handedIn l (a .site) (a .batch) in ready i (not-refused i (roomFor i l) (a .not-refused) .0)
+was-ready {l} a = let i : Input = inputOf l (a .site) (a .batch) in ready i (not-refused i (roomFor i l) (a .not-refused) .0)
 
 pub accepted-leaves-good : {l l′ : Lent} → Accepted l l′ → LeftGood (length (l .table)) l′
 accepted-leaves-good {l} {l′} a =
     let w = outcome a in
-    rw (w .left) (handed-on-good (handedIn l (a .site) (a .batch)) l (w .chosen) (was-ready a) (w .choice))
+    rw (w .left) (handed-on-good (inputOf l (a .site) (a .batch)) l (w .chosen) (was-ready a) (w .choice))
 
 -- ---- the next call
 
@@ -94,7 +94,7 @@ module _ {l l′ next : Lent} (a : Accepted l l′) (o : HandsOn l′ next) (sit
   slots-as-before : length (next .table) ≡ length (l .table)
   slots-as-before = rw (o .table) (accepted-leaves-good a .slots-same)
 
-  demand-met : {number : ℕ} → OfTable number → getD (true ∷ demands (handedIn next site batch)) number true ≡ true
+  demand-met : {number : ℕ} → OfTable number → getD (true ∷ demands (inputOf next site batch)) number true ≡ true
   unfolding demands
   demand-met is-1 =
       let r = was-ready a in
@@ -103,13 +103,13 @@ module _ {l l′ next : Lent} (a : Accepted l l′) (o : HandsOn l′ next) (sit
   demand-met is-4 = none-bad (next .sector) (next .table) (rw (o .table, o .sector) (accepted-leaves-good a .slots-good))
 
   -- A call that is lent the table and the sector as an accepted call left them is never refused 1, 2 or 4, whatever else it is handed.
-  pub never-refused-1-2-4 : {number : ℕ} → OfTable number → sectorRefusal (handedIn next site batch) next ≡ number → ⊥
+  pub never-refused-1-2-4 : {number : ℕ} → OfTable number → sectorRefusal (inputOf next site batch) next ≡ number → ⊥
   unfolding sectorRefusal
-  never-refused-1-2-4 is-1 = not-by (handedIn next site batch) _ 0 (omega arith) (demand-met is-1)
-  never-refused-1-2-4 is-2 = not-by (handedIn next site batch) _ 1 (omega arith) (demand-met is-2)
-  never-refused-1-2-4 is-4 = not-by (handedIn next site batch) _ 3 (omega arith) (demand-met is-4)
+  never-refused-1-2-4 is-1 = not-by (inputOf next site batch) _ 0 (omega arith) (demand-met is-1)
+  never-refused-1-2-4 is-2 = not-by (inputOf next site batch) _ 1 (omega arith) (demand-met is-2)
+  never-refused-1-2-4 is-4 = not-by (inputOf next site batch) _ 3 (omega arith) (demand-met is-4)
 
   -- So it never answers 1, 2 or 4.
-  pub never-answered-1-2-4 : {number : ℕ} {last : Lent} {answer : Served} → OfTable number → ServesSector (handedIn next site batch) next last answer → answer ≡ Refused number → ⊥
+  pub never-answered-1-2-4 : {number : ℕ} {last : Lent} {answer : Served} → OfTable number → ServesSector (inputOf next site batch) next last answer → answer ≡ Refused number → ⊥
   never-answered-1-2-4 {number} {last} {answer} n w e =
-      never-refused-1-2-4 n (refused-exactly-when (handedIn next site batch) next last answer w number .only e .0)
+      never-refused-1-2-4 n (refused-exactly-when (inputOf next site batch) next last answer w number .only e .0)

@@ -19,7 +19,7 @@ use Rattle.walk.proofs.Settled.{rankOf, settled-at}
 use Rattle.fates.specs.Fates.{paired, started, ownerOf}
 use Rattle.records.proofs.Packed.{mark-packed}
 use Rattle.sector.specs.declared.Counts.{Counts}
-use Rattle.sector.specs.Serve.{Lent, handedIn}
+use Rattle.sector.specs.Serve.{Lent, inputOf}
 use Rattle.promises.specs.Words as words
 use Rattle.promises.proofs.Answers.{answers-are-told}
 use Rattle.promises.proofs.Reports.{owner-has, owner-due, named-is-paired, paired-only, paired-slot}
@@ -30,7 +30,7 @@ use Rattle.turns.proofs.Slot.{held-not-free, aged-held, not-due-ages}
 
 module _ {l l′ : Lent} (a : Accepted l l′) where
   abbrev i : Input
-  i = handedIn l (a .site) (a .batch)
+  i = inputOf l (a .site) (a .batch)
 
   abbrev counts : Counts
   counts = a .promise .counts

@@ -14,15 +14,15 @@ use Rattle.records.specs.Fields.{held, waitMost, trackFields}
 use Rattle.records.specs.Bytes.{waitAt, markAt, trackOf, bytesOf, badSlotField, slotDue, isHeld}
 use Rattle.fates.specs.Fates.{paired, started}
 use Rattle.sector.specs.declared.Served.{Served}
-use Rattle.sector.specs.Serve.{Lent, handedIn, sectorRefusal, ServesSector}
+use Rattle.sector.specs.Serve.{Lent, inputOf, sectorRefusal, ServesSector}
 
 -- an accepted call: what it was handed and answered; l was lent to it, and l′ is what it left there
 pub record Accepted (l l′ : Lent) : Type 0 where
   pub site : Site
   pub batch : List (List ℕ)
   pub answer : Served
-  pub not-refused : sectorRefusal (handedIn l site batch) l ≡ 0
-  pub promise : ServesSector (handedIn l site batch) l l′ answer
+  pub not-refused : sectorRefusal (inputOf l site batch) l ≡ 0
+  pub promise : ServesSector (inputOf l site batch) l l′ answer
 
 -- the next call is lent the table and the sector as they were left; the lists for its answer may be others
 pub record HandsOn (l′ next : Lent) : Type 0 where

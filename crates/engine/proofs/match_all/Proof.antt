@@ -13,8 +13,8 @@ claim-all-requires c κs =
     let K = c .before .before .before .before .before .before .before .before .before .before .before .before .clear .ensures in
     (good-len _ _ _ _ _ _ _ (K .0), ((λ i h. K .1 .0 i (omega (arith, K .0 .shape .prices-long))), K .1 .1))
 
-take-turns-requires : tie.Need-take-turns-requires
-take-turns-requires c κs = (good-len _ _ _ _ _ _ _ (c .before .before .before .before .before .before .before .before .before .before .before .before .before .before .claim-all .ensures), (c .before .before .before .before .before .before .before .before .before .before .before .before .before .before .before .before .before .before .before .before .before .before .before .before .before .before .before .before .before .before .before .before .before .before .before .before .before .before .before .before .before .pre .rooms, c .before .before .before .before .before .before .before .before .before .before .before .before .before .before .before .before .before .before .before .before .before .before .before .before .before .before .before .before .before .before .before .before .before .before .before .before .before .before .before .before .before .pre .slack-long))
+insert-all-requires : tie.Need-insert-all-requires
+insert-all-requires c κs = (good-len _ _ _ _ _ _ _ (c .before .before .before .before .before .before .before .before .before .before .before .before .before .before .claim-all .ensures), (c .before .before .before .before .before .before .before .before .before .before .before .before .before .before .before .before .before .before .before .before .before .before .before .before .before .before .before .before .before .before .before .before .before .before .before .before .before .before .before .before .before .pre .rooms, c .before .before .before .before .before .before .before .before .before .before .before .before .before .before .before .before .before .before .before .before .before .before .before .before .before .before .before .before .before .before .before .before .before .before .before .before .before .before .before .before .before .pre .slack-long))
 
 same-length : tie.Need-same-length
 same-length c = omega (arith, c .before .before .before .before .before .before .before .before .before .before .before .before .before .before .before .before .before .before .before .before .before .before .before .before .before .before .before .before .before .before .before .before .before .before .before .before .before .before .before .before .before .before .before .pairing .given, c .before .before .before .before .before .before .before .before .before .before .before .before .before .before .before .before .before .before .before .before .before .before .before .before .before .before .before .before .before .before .pairing2 .given, c .before .before .before .before .before .before .before .before .before .before .before .before .before .before .before .pairing3 .given)
@@ -41,7 +41,7 @@ same-length-8 : tie.Need-same-length-8
 same-length-8 c = search needs
 
 returns : tie.Need-returns
-returns c = good-at _ _ _ _ _ _ _ _ (c .before .before .before .before .before .before .before .before .before .before .before .before .before .before .before .before .before .before .before .before .before .before .before .before .before .before .before .before .before .before .before .claim-all .ensures .shape .prices-long ∙ c .before .before .before .before .before .before .before .before .before .before .before .before .before .before .before .before .before .before .before .before .before .before .before .before .before .before .before .before .before .before .before .before .before .before .before .before .before .before .before .before .before .before .before .before .clear .ensures .0 .shape .prices-long) (c .before .before .before .before .before .before .before .before .before .before .before .before .before .before .before .before .take-turns .ensures)
+returns c = good-at _ _ _ _ _ _ _ _ (c .before .before .before .before .before .before .before .before .before .before .before .before .before .before .before .before .before .before .before .before .before .before .before .before .before .before .before .before .before .before .before .claim-all .ensures .shape .prices-long ∙ c .before .before .before .before .before .before .before .before .before .before .before .before .before .before .before .before .before .before .before .before .before .before .before .before .before .before .before .before .before .before .before .before .before .before .before .before .before .before .before .before .before .before .before .before .clear .ensures .0 .shape .prices-long) (c .before .before .before .before .before .before .before .before .before .before .before .before .before .before .before .before .insert-all .ensures)
 
 pub match-all-spec : {M : Type 1} → statement M
 match-all-spec =
@@ -49,7 +49,7 @@ match-all-spec =
     (tie.spec
     clear-requires
     claim-all-requires
-    take-turns-requires
+    insert-all-requires
     same-length
     same-length-2
     same-length-3

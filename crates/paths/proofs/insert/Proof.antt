@@ -1,6 +1,6 @@
 use borrow.Author.Needs.{needs}
 use native.Mathlib.Omega.{arith}
-use Rattle.paths.proofs.Lift.{searched, paid, price-small, turned, inserted, reached}
+use Rattle.paths.proofs.Lift.{searched, paid, price-small, finishable, inserted, reached}
 use Rattle.paths.proofs.insert.Statement.{statement}
 use Rattle.paths.proofs.insert.Tie as tie
 
@@ -35,7 +35,7 @@ slice-write-prices : tie.Need-slice-write-prices
 slice-write-prices c = omega (arith, c .before .index .ensures, c .before .before .before .before .before .before .before .before .before .before .before .before .before .before .before .before .before .before .before .before .before .before .before .before .before .before .before .before .before .before .before .before .before .before .before .before .pre .track-in, c .before .before .before .before .raise-prices .ensures .prices-long)
 
 finish-requires : tie.Need-finish-requires
-finish-requires c κs = turned (c .before .before .before .before .before .before .before .before .before .before .before .before .before .before .before .before .before .before .before .before .before .before .before .before .before .before .before .before .before .before .before .before .before .before .before .before .before .before .before .before .before .before .pre) (c .before .before .before .before .before .before .before .before .before .before .before .before .before .before .before .before .before .before .before .before .before .before .before .before .before .before .search .ensures) (c .before .before .before .before .before .before .before .before .before .before .raise-prices .ensures) (c .before .before .before .before .before .before .before .before .before .before .before .before .before .before .before .before .before .raise-discounts .ensures) (c .before .before .before .before .before .before .before .index .ensures)
+finish-requires c κs = finishable (c .before .before .before .before .before .before .before .before .before .before .before .before .before .before .before .before .before .before .before .before .before .before .before .before .before .before .before .before .before .before .before .before .before .before .before .before .before .before .before .before .before .before .pre) (c .before .before .before .before .before .before .before .before .before .before .before .before .before .before .before .before .before .before .before .before .before .before .before .before .before .before .search .ensures) (c .before .before .before .before .before .before .before .before .before .before .raise-prices .ensures) (c .before .before .before .before .before .before .before .before .before .before .before .before .before .before .before .before .before .raise-discounts .ensures) (c .before .before .before .before .before .before .before .index .ensures)
 
 same-length : tie.Need-same-length
 same-length c = search needs

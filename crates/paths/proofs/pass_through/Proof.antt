@@ -3,7 +3,7 @@ use native.Mathlib.Omega.{arith}
 use mathlib.Core.Path.{refl, ap}
 use lib.ListN.{length-set}
 use Rattle.laws.specs.Lists.{at}
-use Rattle.paths.proofs.Growth.{keys, few, next-in, own-j, turn, front-more, fit-row}
+use Rattle.paths.proofs.Growth.{keys, few, next-in, own-j, passed-on, front-more, fit-row}
 use Rattle.paths.proofs.pass_through.Statement.{statement}
 use Rattle.paths.proofs.pass_through.Tie as tie
 
@@ -82,7 +82,7 @@ offer-from-requires c κs =
 nearest-from-requires : tie.Need-nearest-from-requires
 nearest-from-requires c κs =
     let p = c .before .before .before .before .before .before .before .before .before .before .before .before .before .before .before .before .before .before .before .before .before .before .before .before .before .before .pre in
-    keys (p .0 .good) (turn (p .0) (p .1) (c .before .before .before .before .before .before .before .before .before .before .before .before .before .before .index .ensures) (c .before .before .before .before .before .before .before .before .before .before .before .lesser .ensures) (c .before .before .before .before .before .before .before .before .before .before .before .before .choose .ensures) (c .before .before .before .before .before .before .offer-from .ensures)) (front-more (p .0) (p .1) (c .before .before .before .before .before .before .before .before .before .open-from .ensures))
+    keys (p .0 .good) (passed-on (p .0) (p .1) (c .before .before .before .before .before .before .before .before .before .before .before .before .before .before .index .ensures) (c .before .before .before .before .before .before .before .before .before .before .before .lesser .ensures) (c .before .before .before .before .before .before .before .before .before .before .before .before .choose .ensures) (c .before .before .before .before .before .before .offer-from .ensures)) (front-more (p .0) (p .1) (c .before .before .before .before .before .before .before .before .before .open-from .ensures))
 
 add-t22 : tie.Need-add-t22
 add-t22 c =
@@ -103,7 +103,7 @@ returns c =
     let p = c .before .before .before .before .before .before .before .before .before .before .before .before .before .before .before .before .before .before .before .before .before .before .before .before .before .before .before .before .pre in (
       record {
         good = p .0 .good;
-        tree = turn (p .0) (p .1) (c .before .before .before .before .before .before .before .before .before .before .before .before .before .before .before .before .index .ensures) (c .before .before .before .before .before .before .before .before .before .before .before .before .before .lesser .ensures) (c .before .before .before .before .before .before .before .before .before .before .before .before .before .before .choose .ensures) (c .before .before .before .before .before .before .before .before .offer-from .ensures);
+        tree = passed-on (p .0) (p .1) (c .before .before .before .before .before .before .before .before .before .before .before .before .before .before .before .before .index .ensures) (c .before .before .before .before .before .before .before .before .before .before .before .before .before .lesser .ensures) (c .before .before .before .before .before .before .before .before .before .before .before .before .before .before .choose .ensures) (c .before .before .before .before .before .before .before .before .offer-from .ensures);
         behind = front-more (p .0) (p .1) (c .before .before .before .before .before .before .before .before .before .before .before .open-from .ensures);
         nearest = c .before .nearest-from .ensures;
       },

@@ -4,8 +4,8 @@ use Prim.Native.Nat.{_≤_, _-_}
 use lib.ListN.{length}
 use native.Mathlib.Omega.{arith}
 use borrow.Author.Needs.{needs}
-use Rattle.queue.proofs.first_turns.Statement.{statement}
-use Rattle.queue.proofs.first_turns.Tie as tie
+use Rattle.queue.proofs.first_inserts.Statement.{statement}
+use Rattle.queue.proofs.first_inserts.Tie as tie
 
 abbrev Inv-loop : tie.InvT-loop
 Inv-loop sheet reports pairing₀ owner₀ prices₀ discounts₀ labels₀ via₀ closings₀ round₀ pairing owner prices discounts labels via closings round = Good sheet reports (length prices₀) pairing owner prices discounts × (Rooms reports labels via closings × (round ≤ length prices₀))
@@ -16,8 +16,8 @@ abbrev μ-loop : tie.MeasureT-loop
 loop-holds : tie.Need-loop-holds Inv-loop μ-loop
 loop-holds c = (c .before .before .before .before .before .before .before .before .pre .0, (c .before .before .before .before .before .before .before .before .pre .1, search needs))
 
-next-turn-requires : tie.Need-next-turn-requires Inv-loop μ-loop
-next-turn-requires c κs =
+next-track-requires : tie.Need-next-track-requires Inv-loop μ-loop
+next-track-requires c κs =
     let G = c .before .before .before .loop .inv .0 in
     (omega (arith, G .shape .pairing-long, G .shape .prices-long), (omega (arith, G .shape .prices-long, G .shape .tracks-few), λ k h. G .numbers .price-in k (omega (arith, G .shape .prices-long))))
 
@@ -50,7 +50,7 @@ sub-insert c = search needs
 
 insert-requires : tie.Need-insert-requires Inv-loop μ-loop
 insert-requires c κs =
-    let t = c .before .before .before .before .before .before .before .before .next-turn .ensures (omega (arith, c .before .before .before .before .before .before .before .if1 .left)) in
+    let t = c .before .before .before .before .before .before .before .before .next-track .ensures (omega (arith, c .before .before .before .before .before .before .before .if1 .left)) in
     to-search _ _ _ _ _ _ _ _ _ _ (good-len _ _ _ _ _ _ _ (c .before .before .before .before .before .before .before .before .before .before .before .before .loop .inv .0)) (c .before .before .before .before .before .before .before .before .before .before .before .before .loop .inv .1 .0) (t .0) (t .1)
 
 next-round-requires : tie.Need-next-round-requires Inv-loop μ-loop
@@ -88,14 +88,14 @@ same-length-14 c = search needs
 returns-2 : tie.Need-returns-2 Inv-loop μ-loop
 returns-2 c = c .before .loop .inv .0
 
-pub first-turns-spec : {M : Type 1} → statement M
-first-turns-spec =
+pub first-inserts-spec : {M : Type 1} → statement M
+first-inserts-spec =
     tie.close
     (tie.spec
     Inv-loop
     μ-loop
     loop-holds
-    next-turn-requires
+    next-track-requires
     same-length
     same-length-2
     same-length-3

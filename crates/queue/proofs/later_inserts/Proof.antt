@@ -1,11 +1,11 @@
 use borrow.Author.Needs.{needs}
 use mathlib.Core.Path.{_∙_}
 use native.Mathlib.Omega.{arith}
-use Rattle.queue.proofs.later_turns.Statement.{statement}
-use Rattle.queue.proofs.later_turns.Tie as tie
+use Rattle.queue.proofs.later_inserts.Statement.{statement}
+use Rattle.queue.proofs.later_inserts.Tie as tie
 
-next-turn-requires : tie.Need-next-turn-requires
-next-turn-requires c κs = search needs
+next-track-requires : tie.Need-next-track-requires
+next-track-requires c κs = search needs
 
 same-length : tie.Need-same-length
 same-length c = search needs
@@ -25,8 +25,8 @@ bound-by-pairs-requires c κs =
     let fill = c .before .before .before .before .before .before .before .fill in
     (p .0, (fill .ensures .0 ∙ p .1 .1, λ k h. omega (arith, fill .ensures .1 k (omega (arith, fill .ensures .0)))))
 
-lifted-turns-requires : tie.Need-lifted-turns-requires
-lifted-turns-requires c κs =
+lifted-inserts-requires : tie.Need-lifted-inserts-requires
+lifted-inserts-requires c κs =
     let p = c .before .before .before .before .before .before .before .before .before .before .before .before .before .before .before .before .before .before .before .before .before .before .before .before .before .before .before .before .before .before .before .before .before .pre in
     (record { good = p .0; slacks = c .before .before .before .before .before .before .before .before .before .before .bound-by-pairs .ensures }, p .1 .0)
 
@@ -57,17 +57,17 @@ same-length-10 c = search needs
 returns-2 : tie.Need-returns-2
 returns-2 c = search needs
 
-pub later-turns-spec : {M : Type 1} → statement M
-later-turns-spec =
+pub later-inserts-spec : {M : Type 1} → statement M
+later-inserts-spec =
     tie.close
     (tie.spec
-    next-turn-requires
+    next-track-requires
     same-length
     same-length-2
     returns
     fill-requires
     bound-by-pairs-requires
-    lifted-turns-requires
+    lifted-inserts-requires
     same-length-3
     same-length-4
     same-length-5

@@ -1,9 +1,9 @@
 use borrow.Author.Needs.{needs}
-use Rattle.queue.proofs.Rise.{good-len, to-search, lifting-at, search-slacks, turned}
+use Rattle.queue.proofs.Rise.{good-len, to-search, lifting-at, search-slacks, tightened-after}
 use mathlib.Core.Path.{sym}
 use native.Mathlib.Omega.{arith}
-use Rattle.queue.proofs.lifted_turn.Statement.{statement}
-use Rattle.queue.proofs.lifted_turn.Tie as tie
+use Rattle.queue.proofs.lifted_insert.Statement.{statement}
+use Rattle.queue.proofs.lifted_insert.Tie as tie
 
 lift-requires : tie.Need-lift-requires
 lift-requires c κs = search needs
@@ -48,10 +48,10 @@ returns : tie.Need-returns
 returns c =
     let insert = c .before .before .before .before .before .before .before .before .before .before .before .before .before .before .before .before .before .before .before .insert in
     let L = c .before .before .before .before .before .before .before .before .before .before .before .before .before .before .before .before .before .before .before .before .before .before .before .before .before .before .before .before .before .before .before .before .before .lift .ensures in
-    lifting-at _ _ _ _ _ _ _ _ _ (L .good .shape .prices-long) (turned _ _ _ _ _ _ _ _ _ (lifting-at _ _ _ _ _ _ _ _ _ (sym (L .good .shape .prices-long)) L) _ _ _ _ _ _ (insert .ensures .0) (insert .ensures .1) _ (c .before .before .tighten .ensures))
+    lifting-at _ _ _ _ _ _ _ _ _ (L .good .shape .prices-long) (tightened-after _ _ _ _ _ _ _ _ _ (lifting-at _ _ _ _ _ _ _ _ _ (sym (L .good .shape .prices-long)) L) _ _ _ _ _ _ (insert .ensures .0) (insert .ensures .1) _ (c .before .before .tighten .ensures))
 
-pub lifted-turn-spec : {M : Type 1} → statement M
-lifted-turn-spec =
+pub lifted-insert-spec : {M : Type 1} → statement M
+lifted-insert-spec =
     tie.close
     (tie.spec
     lift-requires

@@ -6,8 +6,8 @@ use Prim.Native.Nat.{_≤_, _-_}
 use lib.ListN.{length}
 use native.Mathlib.Omega.{arith}
 use borrow.Author.Needs.{needs}
-use Rattle.queue.proofs.lifted_turns.Statement.{statement}
-use Rattle.queue.proofs.lifted_turns.Tie as tie
+use Rattle.queue.proofs.lifted_inserts.Statement.{statement}
+use Rattle.queue.proofs.lifted_inserts.Tie as tie
 
 abbrev Inv-loop : tie.InvT-loop
 Inv-loop sheet reports pairing₀ owner₀ prices₀ discounts₀ labels₀ via₀ closings₀ slack₀ round₀ pairing owner prices discounts labels via closings slack round = Lifting sheet reports (length prices₀) pairing owner prices discounts slack × (Rooms reports labels via closings × (round ≤ length prices₀))
@@ -18,8 +18,8 @@ abbrev μ-loop : tie.MeasureT-loop
 loop-holds : tie.Need-loop-holds Inv-loop μ-loop
 loop-holds c = (c .before .before .before .before .before .before .before .before .before .pre .0, (c .before .before .before .before .before .before .before .before .before .pre .1, search needs))
 
-next-turn-requires : tie.Need-next-turn-requires Inv-loop μ-loop
-next-turn-requires c κs =
+next-track-requires : tie.Need-next-track-requires Inv-loop μ-loop
+next-track-requires c κs =
     let G = c .before .before .before .loop .inv .0 .good in
     (omega (arith, G .shape .pairing-long, G .shape .prices-long), (omega (arith, G .shape .prices-long, G .shape .tracks-few), λ k h. G .numbers .price-in k (omega (arith, G .shape .prices-long))))
 
@@ -50,13 +50,13 @@ same-length-8 c = search needs
 returns : tie.Need-returns Inv-loop μ-loop
 returns c = c .before .before .before .before .before .loop .inv .0 .good
 
-sub-lifted-turn : tie.Need-sub-lifted-turn Inv-loop μ-loop
-sub-lifted-turn c = search needs
+sub-lifted-insert : tie.Need-sub-lifted-insert Inv-loop μ-loop
+sub-lifted-insert c = search needs
 
-lifted-turn-requires : tie.Need-lifted-turn-requires Inv-loop μ-loop
-lifted-turn-requires c κs =
+lifted-insert-requires : tie.Need-lifted-insert-requires Inv-loop μ-loop
+lifted-insert-requires c κs =
     let L = c .before .before .before .before .before .before .before .before .before .before .before .before .before .loop .inv .0 in
-    (lifting-at _ _ _ _ _ _ _ _ _ (sym (L .good .shape .prices-long)) L, (c .before .before .before .before .before .before .before .before .before .before .before .before .before .loop .inv .1 .0, c .before .before .before .before .before .before .before .before .before .next-turn .ensures (omega (arith, c .before .before .before .before .before .before .before .before .if1 .left))))
+    (lifting-at _ _ _ _ _ _ _ _ _ (sym (L .good .shape .prices-long)) L, (c .before .before .before .before .before .before .before .before .before .before .before .before .before .loop .inv .1 .0, c .before .before .before .before .before .before .before .before .before .next-track .ensures (omega (arith, c .before .before .before .before .before .before .before .before .if1 .left))))
 
 add-round : tie.Need-add-round Inv-loop μ-loop
 add-round c = search needs
@@ -67,7 +67,7 @@ loop-less c = search needs
 loop-again : tie.Need-loop-again Inv-loop μ-loop
 loop-again c =
     let G = c .before .before .before .before .before .before .before .before .before .before .before .before .before .before .before .before .before .before .before .before .before .before .before .before .before .before .before .before .before .before .loop .inv .0 .good in
-    (lifting-at _ _ _ _ _ _ _ _ _ (G .shape .prices-long) (c .before .before .before .before .before .before .before .before .before .before .before .before .before .before .before .before .lifted-turn .ensures), (record { labels-long = search needs; via-long = search needs; closings-long = search needs }, omega (arith, G .shape .prices-long, c .before .before .before .before .before .before .before .before .before .before .before .before .before .before .before .before .before .before .before .before .before .before .before .before .before .before .before .before .before .loop-test .taken)))
+    (lifting-at _ _ _ _ _ _ _ _ _ (G .shape .prices-long) (c .before .before .before .before .before .before .before .before .before .before .before .before .before .before .before .before .lifted-insert .ensures), (record { labels-long = search needs; via-long = search needs; closings-long = search needs }, omega (arith, G .shape .prices-long, c .before .before .before .before .before .before .before .before .before .before .before .before .before .before .before .before .before .before .before .before .before .before .before .before .before .before .before .before .before .loop-test .taken)))
 
 same-length-9 : tie.Need-same-length-9 Inv-loop μ-loop
 same-length-9 c = search needs
@@ -96,14 +96,14 @@ same-length-16 c = search needs
 returns-2 : tie.Need-returns-2 Inv-loop μ-loop
 returns-2 c = c .before .loop .inv .0 .good
 
-pub lifted-turns-spec : {M : Type 1} → statement M
-lifted-turns-spec =
+pub lifted-inserts-spec : {M : Type 1} → statement M
+lifted-inserts-spec =
     tie.close
     (tie.spec
     Inv-loop
     μ-loop
     loop-holds
-    next-turn-requires
+    next-track-requires
     same-length
     same-length-2
     same-length-3
@@ -113,8 +113,8 @@ lifted-turns-spec =
     same-length-7
     same-length-8
     returns
-    sub-lifted-turn
-    lifted-turn-requires
+    sub-lifted-insert
+    lifted-insert-requires
     add-round
     loop-less
     loop-again

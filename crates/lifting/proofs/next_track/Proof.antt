@@ -9,8 +9,8 @@ use lib.ListN.{length}
 use native.Mathlib.Omega.{arith}
 use native.Mathlib.Nat.{add-sub-cancel}
 use borrow.Author.Needs.{needs}
-use Rattle.lifting.proofs.next_turn.Statement.{statement}
-use Rattle.lifting.proofs.next_turn.Tie as tie
+use Rattle.lifting.proofs.next_track.Statement.{statement}
+use Rattle.lifting.proofs.next_track.Tie as tie
 
 abbrev Inv-loop : tie.InvT-loop
 Inv-loop pairing prices best₀ j₀ best j = (j ≤ length prices) × ((best < 2 ^ 31) × (0 < best → ((best - 1) % keyPlaces < length prices) × (at pairing ((best - 1) % keyPlaces) ≡ none)))
@@ -33,17 +33,17 @@ mul-if-unpaired c = search needs
 shared-slice-read-if-unpaired : tie.Need-shared-slice-read-if-unpaired Inv-loop μ-loop
 shared-slice-read-if-unpaired c = omega (arith, c .before .before .before .before .before .before .pre .0)
 
-cast-turn-of : tie.Need-cast-turn-of Inv-loop μ-loop
-cast-turn-of c = omega (arith, c .before .before .before .before .before .before .pre .1 .0)
+cast-queue-key : tie.Need-cast-queue-key Inv-loop μ-loop
+cast-queue-key c = omega (arith, c .before .before .before .before .before .before .pre .1 .0)
 
-turn-of-requires : tie.Need-turn-of-requires Inv-loop μ-loop
-turn-of-requires c κs = omega (arith, c .before .before .before .before .before .before .pre .1 .0)
+queue-key-requires : tie.Need-queue-key-requires Inv-loop μ-loop
+queue-key-requires c κs = omega (arith, c .before .before .before .before .before .before .pre .1 .0)
 
 if-unpaired-requires : tie.Need-if-unpaired-requires Inv-loop μ-loop
 if-unpaired-requires c κs = c .before .before .before .before .before .before .before .pre .1 .1 (c .before .before .before .before .loop .j) (c .before .before .before .loop-test .taken)
 
 greater-requires : tie.Need-greater-requires Inv-loop μ-loop
-greater-requires c κs = (omega (arith, c .if-unpaired .ensures .0, c .before .turn-of .ensures .0), c .before .before .before .before .before .loop .inv .1 .0)
+greater-requires c κs = (omega (arith, c .if-unpaired .ensures .0, c .before .queue-key .ensures .0), c .before .before .before .before .before .loop .inv .1 .0)
 
 add-j : tie.Need-add-j Inv-loop μ-loop
 add-j c = search needs
@@ -56,7 +56,7 @@ loop-again c =
     let p = c .before .before .before .before .before .before .loop in
     let l = c .greater .ensures in
     let e = c .before .if-unpaired .ensures in
-    let t = c .before .before .turn-of .ensures in (
+    let t = c .before .before .queue-key .ensures in (
       search needs,
       (
         ⊎-elim (λ g. omega (arith, l .1 .1 .1 g, e .0, t .0)) (λ g. omega (arith, l .1 .1 .0 g, p .inv .1 .0)) (le-or-lt (p .best) (c .before .if-unpaired .result)),
@@ -78,8 +78,8 @@ returns-2 c =
     λ h. let q = c .before .before .loop .inv .1 .1 (omega arith) in
     (omega (arith, q .0), rw add-sub-cancel (q .1))
 
-pub next-turn-spec : {M : Type 1} → statement M
-next-turn-spec =
+pub next-track-spec : {M : Type 1} → statement M
+next-track-spec =
     tie.close
     (tie.spec
     Inv-loop
@@ -89,8 +89,8 @@ next-turn-spec =
     shared-slice-read-price
     mul-if-unpaired
     shared-slice-read-if-unpaired
-    cast-turn-of
-    turn-of-requires
+    cast-queue-key
+    queue-key-requires
     if-unpaired-requires
     greater-requires
     add-j
