@@ -9,7 +9,7 @@ use lib.Seq.{getD-set-same, getD-set-other}
 use Rattle.laws.specs.Lists.{at}
 use Rattle.matching.specs.Pairing.{none, leftOut}
 use Rattle.passes.specs.Cells.{far, IsCell, keyPlaces}
-use Rattle.paths.specs.State.{cell, Shape, Own, Match, Good, Done, Searchable, Inserted}
+use Rattle.paths.specs.State.{cell, Shape, Own, Match, Good, PairedOrOut, Searchable, Inserted}
 use Rattle.engine.specs.State.{Fresh, Contest, Claimed, Visit}
 use Rattle.queue.proofs.Rise.{good-len}
 use Rattle.laws.proofs.Stores.{same-or}
@@ -174,7 +174,7 @@ module _ (cells : List ℕ) (m track report : ℕ) (pairing owner prices discoun
 
 -- a visit where nothing is to do, and where the track is to be inserted
 module _ (cells : List ℕ) (m track : ℕ) (pairing owner prices discounts labels via closings : List ℕ) (Vs : Visit cells m track pairing owner prices discounts labels via closings) (place : ℕ) (place-is : place ≡ track) where
-  same : Done m pairing prices track → Inserted cells m (length prices) track pairing prices pairing owner prices discounts
+  same : PairedOrOut m pairing prices track → Inserted cells m (length prices) track pairing prices pairing owner prices discounts
   same d = record { good = Vs .good; done = λ i h a. a; track-done = d }
 
   pub visit-pair : (at pairing place ≡ none → ⊥) → Inserted cells m (length prices) track pairing prices pairing owner prices discounts

@@ -18,7 +18,7 @@ use Rattle.matching.proofs.Facts.{cells-ok}
 use Rattle.matching.proofs.Theorems.{not-refused, certificate-zero, beyond-is-not-read}
 use Rattle.passes.specs.Cells.{IsCell}
 use Rattle.engine.specs.declared.Paired.the-variants.{Refused, Done}
-use Rattle.engine.specs.Call.{pairingRefusal, answerOf, SheetPaired, PairsSheet}
+use Rattle.engine.specs.Call.{pairingRefusal, pairedBy, SheetPaired, PairsSheet}
 use Rattle.engine.specs.State.{Tested, Certified}
 
 is-cell : (c : ℕ) → cellOk c ≡ true → IsCell c
@@ -27,10 +27,10 @@ is-cell c e =
 
 module _ (n m : ℕ) (cells pairing prices discounts : List ℕ) where
   pub refuses : (k : ℕ) → k ≡ pairingRefusal n m cells pairing prices discounts → (k ≡ 0 → ⊥) → PairsSheet n m cells pairing prices discounts pairing prices discounts (Refused k)
-  unfolding answerOf
+  unfolding pairedBy
   refuses zero e d = absurd (d refl)
   refuses (suc k) e d =
-      record { answered = ap answerOf e; refused = λ z. (refl, (refl, refl)); served = λ z. absurd (d (e ∙ z)) }
+      record { answered = ap pairedBy e; refused = λ z. (refl, (refl, refl)); served = λ z. absurd (d (e ∙ z)) }
 
   module _ (e : pairingRefusal n m cells pairing prices discounts ≡ 0) where
     pub sizes : Sizes n m (length cells) (length pairing) (length prices) (length discounts)
@@ -109,10 +109,10 @@ module _ (n m : ℕ) (cells pairing prices discounts : List ℕ) where
           }
 
     pub serves : (pairing′ prices′ discounts′ : List ℕ) → Certified own m (length (take n prices)) pairing′ prices′ discounts′ → PairsSheet n m cells pairing prices discounts (pairing′ ++ drop n pairing) (prices′ ++ drop n prices) (discounts′ ++ drop m discounts) Done
-    unfolding answerOf
+    unfolding pairedBy
     serves pairing′ prices′ discounts′ C =
         record {
-          answered = sym (ap answerOf e);
+          answered = sym (ap pairedBy e);
           refused = λ d. absurd (d e);
           served = λ z. served pairing′ prices′ discounts′ (rw prices-length at C);
         }

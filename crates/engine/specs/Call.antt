@@ -12,9 +12,9 @@ abbrev pub pairingRefusal : (n m : ℕ) (cells pairing prices discounts : List �
 pairingRefusal n m cells pairing prices discounts = sheetRefusal n m cells (length pairing) (length prices) (length discounts) 0
 
 -- the answer that stands for a number
-unfoldable pub answerOf : ℕ → Paired
-answerOf zero = Done
-answerOf (suc k) = Refused (suc k)
+unfoldable pub pairedBy : ℕ → Paired
+pairedBy zero = Done
+pairedBy (suc k) = Refused (suc k)
 
 -- a call that is served: the check accepts what is written, and beyond the first entries each list is as before
 pub record SheetPaired (n m : ℕ) (cells pairing prices discounts pairing′ prices′ discounts′ : List ℕ) : Type 0 where
@@ -25,6 +25,6 @@ pub record SheetPaired (n m : ℕ) (cells pairing prices discounts pairing′ pr
 
 -- the lists before the call, and after it
 pub record PairsSheet (n m : ℕ) (cells pairing prices discounts pairing′ prices′ discounts′ : List ℕ) (answer : Paired) : Type 0 where
-  pub answered : answer ≡ answerOf (pairingRefusal n m cells pairing prices discounts)
+  pub answered : answer ≡ pairedBy (pairingRefusal n m cells pairing prices discounts)
   pub refused : (pairingRefusal n m cells pairing prices discounts ≡ 0 → ⊥) → (pairing′ ≡ pairing) × ((prices′ ≡ prices) × (discounts′ ≡ discounts))
   pub served : pairingRefusal n m cells pairing prices discounts ≡ 0 → SheetPaired n m cells pairing prices discounts pairing′ prices′ discounts′

@@ -6,7 +6,7 @@ use lib.ListN.{length}
 use Rattle.laws.specs.Lists.{at}
 use Rattle.matching.specs.Pairing.{none, mostTracks, Certificate, sheetOf}
 use Rattle.passes.specs.Cells.{far, IsCell}
-use Rattle.paths.specs.State.{widest, cell, Shape, Good, Rooms, Done}
+use Rattle.paths.specs.State.{widest, cell, Shape, Good, SearchLists, PairedOrOut}
 
 -- a track that is in no pair, at the start
 pub record Fresh (cells : List ℕ) (m track : ℕ) (pairing owner prices discounts : List ℕ) : Type 0 where
@@ -32,19 +32,19 @@ pub record Claimed (cells : List ℕ) (m n track : ℕ) (pairing pairing′ owne
 -- the lists of the call, and the working lists
 pub record WorkRoom (cells : List ℕ) (m n : ℕ) (pairing owner prices discounts labels via closings slack : List ℕ) : Type 0 where
   pub shape : Shape cells m n pairing owner prices discounts
-  pub rooms : Rooms m labels via closings
+  pub rooms : SearchLists m labels via closings
   pub slack-long : length slack ≡ m
 
 -- any track, and the working lists
 pub record Visit (cells : List ℕ) (m track : ℕ) (pairing owner prices discounts labels via closings : List ℕ) : Type 0 where
   pub good : Good cells m (length prices) pairing owner prices discounts
   pub track-in : track < length prices
-  pub rooms : Rooms m labels via closings
+  pub rooms : SearchLists m labels via closings
 
 -- the whole answer: fair prices, tight pairs, free reports at 0, and each track paired or at the full price
 pub record Solved (cells : List ℕ) (m n : ℕ) (pairing owner prices discounts : List ℕ) : Type 0 where
   pub good : Good cells m n pairing owner prices discounts
-  pub done : (i : ℕ) → i < n → Done m pairing prices i
+  pub done : (i : ℕ) → i < n → PairedOrOut m pairing prices i
 
 -- what the engine asks of a caller: few enough tracks and reports, lists of their lengths, and each cell a score or none
 pub record Tested (cells : List ℕ) (m : ℕ) (pairing prices discounts : List ℕ) : Type 0 where

@@ -1,4 +1,4 @@
--- The check's numbers, each met once, by computation: on 01's sheet of cells tracks and cells reports, where it serves.
+-- The check's numbers, each met once, by computation: on 01's sheet of two tracks and two reports, where it serves.
 use Prim.Native.Nat.{ℕ, _+_, _*_}
 use mathlib.Core.Path.{_≡_, refl}
 use mathlib.Core.Bool.{Bool, true, false, cond}

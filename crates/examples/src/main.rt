@@ -208,23 +208,23 @@ fn waits() {
 }
 
 // Which of the two gains, both in tenths: of the prediction or of the speed.
-enum Tenths {
+enum Coefficient {
     A,
     B,
 }
 
-fn gain(of: Tenths, updates: u8, confidence: u8, quality: u8, azimuth_degrade: u8) -> u64
+fn gain(of: Coefficient, updates: u8, confidence: u8, quality: u8, azimuth_degrade: u8) -> u64
     requires { ⌜ (confidence ≤ confidenceMost) × ((quality ≤ qualityMost) × («azimuth_degrade» ≤ 1)) ⌝ }
 {
     let t = track(0, 0, 0, updates);
     let p = report(confidence, quality, azimuth_degrade, 0, 0);
     match of {
-        Tenths::A => settling::gain_a(t, p) as u64,
-        Tenths::B => settling::gain_b(t, p) as u64,
+        Coefficient::A => settling::gain_a(t, p) as u64,
+        Coefficient::B => settling::gain_b(t, p) as u64,
     }
 }
 
-fn gain_row(name: &[u8], of: Tenths, quality: u8)
+fn gain_row(name: &[u8], of: Coefficient, quality: u8)
     requires { ⌜ quality ≤ qualityMost ⌝ }
 {
     io::write_all(STDOUT_FILENO, name);
@@ -238,24 +238,24 @@ fn gain_row(name: &[u8], of: Tenths, quality: u8)
 }
 
 fn gains() {
-    gain_row(b"a, quality 0 =", Tenths::A, 0);
-    gain_row(b"a, quality 1 =", Tenths::A, 1);
-    gain_row(b"a, quality 2 =", Tenths::A, 2);
-    gain_row(b"a, quality 3 =", Tenths::A, 3);
-    gain_row(b"b, quality 0 =", Tenths::B, 0);
-    gain_row(b"b, quality 1 =", Tenths::B, 1);
-    gain_row(b"b, quality 2 =", Tenths::B, 2);
-    gain_row(b"b, quality 3 =", Tenths::B, 3);
+    gain_row(b"a, quality 0 =", Coefficient::A, 0);
+    gain_row(b"a, quality 1 =", Coefficient::A, 1);
+    gain_row(b"a, quality 2 =", Coefficient::A, 2);
+    gain_row(b"a, quality 3 =", Coefficient::A, 3);
+    gain_row(b"b, quality 0 =", Coefficient::B, 0);
+    gain_row(b"b, quality 1 =", Coefficient::B, 1);
+    gain_row(b"b, quality 2 =", Coefficient::B, 2);
+    gain_row(b"b, quality 3 =", Coefficient::B, 3);
     line(
         b"a, azimuth-degrade 1 = ",
-        gain(Tenths::A, UPDATES, 7, 3, 1),
+        gain(Coefficient::A, UPDATES, 7, 3, 1),
     );
     line(
         b"b, azimuth-degrade 1 = ",
-        gain(Tenths::B, UPDATES, 7, 3, 1),
+        gain(Coefficient::B, UPDATES, 7, 3, 1),
     );
-    line(b"a, updates 1 = ", gain(Tenths::A, 1, 0, 0, 1));
-    line(b"b, updates 1 = ", gain(Tenths::B, 1, 0, 0, 1));
+    line(b"a, updates 1 = ", gain(Coefficient::A, 1, 0, 0, 1));
+    line(b"b, updates 1 = ", gain(Coefficient::B, 1, 0, 0, 1));
 }
 
 fn main() {

@@ -8,13 +8,13 @@ use borrow.Author.Tests.{ltb-true}
 use lib.Dec.{eqb, leb, ltb}
 use lib.ListN.{length, getD, take}
 use lib.Seq.{take-at}
-use Rattle.laws.specs.Lists.{outs}
+use Rattle.laws.specs.Lists.{outs, numbers}
 use Rattle.laws.proofs.Listed.{length-listed}
 use Rattle.laws.proofs.Fold.{length-outs}
 use Rattle.records.specs.Fields.{isWeak}
 use Rattle.records.specs.Bytes.{reportOf, isFree}
 use Rattle.fates.specs.Fates.{paired, started, weak, full, Handed, freeSlot, ownerOf, shownMark, slotOf, toldPaired, toldBy, toldUnpaired, toldOf, afterReport, reportNumbers, fatesOf, slotsOf, shownOf, countOf}
-use Rattle.laws.proofs.Rounds.{numbers, told-at}
+use Rattle.laws.proofs.Rounds.{told-at}
 use Rattle.fates.proofs.Telling.{fateOut, slotOut, shownOut}
 use Rattle.fates.proofs.Starts.{tableAt, held-at}
 use Rattle.laws.proofs.Counts.{count-cons, count-none}

@@ -7,30 +7,31 @@ use borrow.Author.Tests.{ltb-true, ltb-false, eqb-true, eqb-false}
 use lib.Dec.{eqb, ltb}
 use lib.ListN.{length, getD, set, length-set}
 use lib.Seq.{getD-set-same, getD-set-other, set-out}
-use Rattle.laws.specs.Lists.{at, afterAll}
+use Rattle.laws.specs.Lists.{at, afterAll, numbers}
 use Rattle.laws.proofs.Search.{first-found}
 use Rattle.laws.proofs.Tests.{clash}
 use Rattle.numbers.specs.Scales.{turn, sectors}
 use Rattle.numbers.specs.Sectors.{nextSector}
 use Rattle.records.specs.declared.Report.{Report}
 use Rattle.records.specs.Fields.{trackFields, Sound}
-use Rattle.records.specs.Bytes.{bytesOf, reportOf, badSlotField, isFree}
+use Rattle.records.specs.Bytes.{bytesOf, reportOf, badSlotField, isFree, SlotsGood}
 use Rattle.records.proofs.Packed.{packed-good}
 use Rattle.settling.specs.Settle.{startedOf}
 use Rattle.settling.proofs.HandedOn.{started-served}
 use Rattle.fates.specs.Fates.{started, Handed, freeSlot, ownerOf, toldUnpaired, afterUnpaired, afterReport, reportNumbers, startedTable}
-use Rattle.laws.proofs.Rounds.{numbers, all-keep}
+use Rattle.laws.proofs.Rounds.{all-keep}
+
+-- what a report that starts a track stores
+abbrev pub newSlot : Handed → ℕ → List ℕ
+newSlot h j = bytesOf (startedOf (reportOf (getD (h .batch) j [])) (h .sector))
 
 -- a report leaves the table as it is, or starts its track in the lowest free slot: what both keep, it keeps
 module _ (Q : List (List ℕ) → Type 0) (h : Handed) (P : List ℕ) (j : ℕ) (table : List (List ℕ)) where
-  abbrev pub newSlot : List ℕ
-  newSlot = bytesOf (startedOf (reportOf (getD (h .batch) j [])) (h .sector))
-
-  pub report-keeps : Q table → Q (set table (freeSlot table) newSlot) → Q (afterReport h P j table)
+  pub report-keeps : Q table → Q (set table (freeSlot table) (newSlot h j)) → Q (afterReport h P j table)
   unfolding afterReport afterUnpaired
   report-keeps q s = go (ltb (ownerOf P j) (length P)) (eqb (toldUnpaired (reportOf (getD (h .batch) j [])) table .fate) started)
     where
-      go : (a b : Bool) → Q (cond a table (cond b (set table (freeSlot table) newSlot) table))
+      go : (a b : Bool) → Q (cond a table (cond b (set table (freeSlot table) (newSlot h j)) table))
       go true b = q
       go false true = s
       go false false = q
@@ -76,10 +77,6 @@ held-slots-kept h P table k f = held-at h P (length (h .batch)) table k f
 
 -- ---- well formed for the next call
 
--- every slot of a table has no bad field
-pub record AllGood (s : ℕ) (table : List (List ℕ)) : Type 0 where
-  pub good : (k : ℕ) → k < length table → badSlotField (getD table k []) s ≡ trackFields
-
 -- a new track is one
 new-good : (p : Report) (s : ℕ) → s < sectors → p .azimuth < turn → Sound p → badSlotField (bytesOf (startedOf p s)) (nextSector s) ≡ trackFields
 unfolding startedOf
@@ -91,18 +88,18 @@ pub record GoodReports (h : Handed) : Type 0 where
   pub azimuth-in : (j : ℕ) → j < length (h .batch) → reportOf (getD (h .batch) j []) .azimuth < turn
 
 -- a slot's new content is good, and the others are as they were
-set-good : (s : ℕ) (table : List (List ℕ)) (i : ℕ) (v : List ℕ) → AllGood s table → badSlotField v s ≡ trackFields → AllGood s (set table i v)
-set-good s table i v g e = record { good = λ k l. go k (rw (length-set table i v) at l) (eqb k i) refl }
+set-good : (s : ℕ) (table : List (List ℕ)) (i : ℕ) (v : List ℕ) → SlotsGood table s → badSlotField v s ≡ trackFields → SlotsGood (set table i v) s
+set-good s table i v g e = λ k l. go k (rw (length-set table i v) at l) (eqb k i) refl
   where
     go : (k : ℕ) → k < length table → (b : Bool) → eqb k i ≡ b → badSlotField (getD (set table i v) k []) s ≡ trackFields
     go k l true q = let m : i ≡ k = sym (eqb-true k i q) in rw (m, getD-set-same table k v [] l) e
-    go k l false q = rw (getD-set-other table i k v [] (eqb-false k i q)) (g .good k l)
+    go k l false q = rw (getD-set-other table i k v [] (eqb-false k i q)) (g k l)
 
 -- where every slot is well formed for the next call, every slot still is when the reports have started their tracks
-pub started-good : (h : Handed) (P : List ℕ) (table : List (List ℕ)) → h .sector < sectors → GoodReports h → AllGood (nextSector (h .sector)) table → AllGood (nextSector (h .sector)) (startedTable h P table)
+pub started-good : (h : Handed) (P : List ℕ) (table : List (List ℕ)) → h .sector < sectors → GoodReports h → SlotsGood table (nextSector (h .sector)) → SlotsGood (startedTable h P table) (nextSector (h .sector))
 unfolding startedTable reportNumbers
 started-good h P table l w g =
     let s : ℕ = nextSector (h .sector) in
-    all-keep (afterReport h P) (AllGood s) (length (h .batch)) (λ j. j) table
-    (λ j t i q. report-keeps (AllGood s) h P j t q (set-good s t (freeSlot t) _ q (new-good _ (h .sector) l (w .azimuth-in j i) (w .sound j i))))
+    all-keep (afterReport h P) (λ t. SlotsGood t s) (length (h .batch)) (λ j. j) table
+    (λ j t i q. report-keeps (λ t. SlotsGood t s) h P j t q (set-good s t (freeSlot t) _ q (new-good _ (h .sector) l (w .azimuth-in j i) (w .sound j i))))
     g

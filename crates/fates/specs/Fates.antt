@@ -5,7 +5,7 @@ use mathlib.Core.Bool.{Bool, cond}
 use mathlib.Core.List.{List, []}
 use lib.Dec.{leb, ltb, eqb}
 use lib.ListN.{length, getD, set}
-use Rattle.laws.specs.Lists.{firstIndex, afterAll, outs, listed, count}
+use Rattle.laws.specs.Lists.{firstIndex, afterAll, outs, count, numbers}
 use Rattle.records.specs.declared.Report.{Report}
 use Rattle.records.specs.Fields.{isWeak}
 use Rattle.records.specs.Bytes.{trackOf, bytesOf, reportOf, isFree}
@@ -94,7 +94,7 @@ afterReport h P j table =
 -- ---- all reports, in batch order, from the table as pairing left it
 
 unfoldable pub reportNumbers : Handed → List ℕ
-reportNumbers h = listed (length (h .batch)) (λ j. j)
+reportNumbers h = numbers (length (h .batch))
 
 unfoldable pub startedTable : Handed → List ℕ → List (List ℕ) → List (List ℕ)
 startedTable h P table = afterAll (afterReport h P) (reportNumbers h) table
@@ -123,7 +123,7 @@ pub record Tellable (h : Handed) (P : List ℕ) (table : List (List ℕ)) : Type
   pub due-lies : (rank : ℕ) → rank < length (h .due) → getD (h .due) rank 0 < length table
 
 -- room for each report in the three answer lists
-pub record Roomy (reports : ℕ) (fates slots shown : List ℕ) : Type 0 where
+pub record RoomToTell (reports : ℕ) (fates slots shown : List ℕ) : Type 0 where
   pub for-fates : reports ≤ length fates
   pub for-slots : reports ≤ length slots
   pub for-shown : reports ≤ length shown

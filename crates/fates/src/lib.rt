@@ -8,7 +8,7 @@ ghost use lib.ListN.{length, take, drop};
 ghost use Rattle.numbers.specs.Scales.{sectors};
 ghost use Rattle.intake.specs.Refusals.{mostSlots, mostBatch};
 ghost use Rattle.fates.specs.Fates.{started as Fates·started, handed, freeSlot, ownerOf, shownMark, toldUnpaired, afterUnpaired};
-ghost use Rattle.fates.specs.Fates.{toldOf, afterReport, startedTable, fatesOf, slotsOf, shownOf, countOf, Tellable, Roomy};
+ghost use Rattle.fates.specs.Fates.{toldOf, afterReport, startedTable, fatesOf, slotsOf, shownOf, countOf, Tellable, RoomToTell};
 use records::Report;
 
 pub const PAIRED: u8 = 1;
@@ -149,7 +149,7 @@ pub fn tell_reports(
     shown: &mut [u8],
 )
     requires { ⌜ Tellable (handed (now due) sector (now batch)) (now pairing) (now table) ⌝ }
-    requires { ⌜ Roomy (length (now batch)) (now fates) (now slots) (now shown) ⌝ }
+    requires { ⌜ RoomToTell (length (now batch)) (now fates) (now slots) (now shown) ⌝ }
     ensures { λ _. ⌜ (now (table .exit) ≡ startedTable (handed (now (due .entry)) sector (now (batch .entry))) (now (pairing .entry)) (now (table .entry)))
         × (now (fates .exit) ≡ fatesOf (handed (now (due .entry)) sector (now (batch .entry))) (now (pairing .entry)) (now (table .entry)) ++ drop (length (now (batch .entry))) (now (fates .entry)))
         × (now (slots .exit) ≡ slotsOf (handed (now (due .entry)) sector (now (batch .entry))) (now (pairing .entry)) (now (table .entry)) ++ drop (length (now (batch .entry))) (now (slots .entry)))

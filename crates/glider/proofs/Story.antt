@@ -18,7 +18,7 @@ use Rattle.scoring.specs.Score.{pairPosition, dopplerNear, dopplerAgrees, doppl
 use Rattle.matching.specs.Pairing.{none, HasReport, ValidPairing, Best, sheetOf}
 use Rattle.matching.specs.Answer.{sizesOk, cellsOk, pairingOk, sheetRefusal}
 use Rattle.matching.proofs.Facts as facts
-use Rattle.matching.proofs.Theorems.{all-are-served, zero-is-best}
+use Rattle.matching.proofs.Theorems.{all-are-paired, zero-is-best}
 use Rattle.engine.specs.declared.Paired as answers
 use Rattle.engine.specs.Call.{PairsSheet}
 use Rattle.intake.specs.Refusals.{slotBad, reportBad, reportElsewhere, noneOf, dueSlots, demands, numberOf, faultOf, refusalOf}
@@ -53,8 +53,8 @@ both-have-one (suc zero) h e = let z : _≡_ {A = ℕ} 1 none = e in omega arith
 both-have-one (suc (suc i)) h e = omega arith
 
 -- So every best pairing continues both tracks ..
-pub best-serves-both : (P : ℕ → ℕ) → Best (sheetOf 2 2 cells) P → (i : ℕ) → i < 2 → HasReport P i
-best-serves-both P b = all-are-served (sheetOf 2 2 cells) P (at kept) b kept-is-valid both-have-one
+pub best-pairs-both : (P : ℕ → ℕ) → Best (sheetOf 2 2 cells) P → (i : ℕ) → i < 2 → HasReport P i
+best-pairs-both P b = all-are-paired (sheetOf 2 2 cells) P (at kept) b kept-is-valid both-have-one
 
 one : (n : ℕ) → n < 2 → (n ≡ 0 → ⊥) → n ≡ 1
 one zero h f = absurd (f refl)
@@ -70,8 +70,8 @@ none-else (suc (suc n)) h f = omega arith
 pub best-keeps-the-glider : (P : ℕ → ℕ) → Best (sheetOf 2 2 cells) P → (P 0 ≡ ridge) × (P 1 ≡ glider)
 best-keeps-the-glider P b =
     let v = b .valid in
-    let p₀ = best-serves-both P b 0 (omega arith) in
-    let p₁ = best-serves-both P b 1 (omega arith) in
+    let p₀ = best-pairs-both P b 0 (omega arith) in
+    let p₁ = best-pairs-both P b 1 (omega arith) in
     let l₀ : P 0 < 2 = v .there 0 (omega arith) p₀ in
     let l₁ : P 1 < 2 = v .there 1 (omega arith) p₁ in
     let not-ridge : P 1 ≡ 0 → ⊥ = λ e. v .admissible 1 (omega arith) p₁ (ap (λ (j : ℕ). sheetOf 2 2 cells .cell 1 j) e) in

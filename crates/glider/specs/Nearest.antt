@@ -5,7 +5,7 @@ use mathlib.Core.Bool.{Bool, true, cond, _||_}
 use mathlib.Core.List.{List}
 use lib.Dec.{leb}
 use lib.ListN.{length, getD, take, drop, set}
-use Rattle.laws.specs.Lists.{afterAll, outs, listed}
+use Rattle.laws.specs.Lists.{afterAll, outs, numbers}
 use Rattle.matching.specs.Pairing.{none, mostTracks, mostReports}
 
 -- the score of a report in a track's row; none, which is above every score, where there is no such report
@@ -18,7 +18,7 @@ nearerOf row taken j nearest = cond (getD taken j true || leb (scoreIn row neare
 
 -- a track's admissible report of the lowest score among those still free, the first of several; none where there is none
 unfoldable pub nearestOf : (row : List ℕ) (taken : List Bool) → ℕ
-nearestOf row taken = afterAll (nearerOf row taken) (listed (length row) (λ j. j)) none
+nearestOf row taken = afterAll (nearerOf row taken) (numbers (length row)) none
 
 -- track i's row of a sheet of m reports
 abbrev pub rowAt : (m : ℕ) (cells : List ℕ) → ℕ → List ℕ
@@ -32,7 +32,7 @@ unfoldable pub takenAfter : (m : ℕ) (cells : List ℕ) → ℕ → List Bool �
 takenAfter m cells i taken = set taken (nearestFor m cells i taken) true
 
 unfoldable pub nearestFirst : (n m : ℕ) (cells : List ℕ) → List Bool → List ℕ
-nearestFirst n m cells taken = outs (takenAfter m cells) (nearestFor m cells) (listed n (λ i. i)) taken
+nearestFirst n m cells taken = outs (takenAfter m cells) (nearestFor m cells) (numbers n) taken
 
 -- what the code counts on
 pub record Filterable (m : ℕ) (cells : List ℕ) (taken : List Bool) (n : ℕ) : Type 0 where

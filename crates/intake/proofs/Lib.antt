@@ -1,3 +1,3 @@
 -- What a call may count on once nothing is refused.
-pub mod Scans
+pub mod SlotWalk
 pub mod Readiness

@@ -27,12 +27,6 @@ module _ {A : Type 0} (f : A → A) where
   not-yet-mapped [] (suc i) d = refl
   not-yet-mapped (x ∷ xs) (suc i) d = not-yet-mapped xs i d
 
-  length-mapFirst : (xs : List A) (i : ℕ) → length (mapFirst i xs) ≡ length xs
-  unfolding mapFirst
-  length-mapFirst xs zero = refl
-  length-mapFirst [] (suc i) = refl
-  length-mapFirst (x ∷ xs) (suc i) = ap suc (length-mapFirst xs i)
-
   one-mapped : (xs : List A) (i : ℕ) (d : A) → i < length xs → set (mapFirst i xs) i (f (getD xs i d)) ≡ mapFirst (suc i) xs
   unfolding mapFirst
   one-mapped [] i d h = absurd (not-suc-le-zero h)

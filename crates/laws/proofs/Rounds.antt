@@ -6,15 +6,12 @@ use mathlib.Core.List.{List, [], _∷_, _++_}
 use native.Mathlib.Nat.{zero-add, le-of-suc-le-suc, not-suc-le-zero}
 use native.Mathlib.Omega.{arith}
 use lib.ListN.{length, getD, drop, set}
-use Rattle.laws.specs.Lists.{firstIndex, indicesFrom, afterAll, outs, listed}
+use Rattle.laws.specs.Lists.{firstIndex, indicesFrom, afterAll, outs, listed, numbers}
 use Rattle.laws.proofs.Listed.{length-listed, listed-at}
 use Rattle.laws.proofs.Fold.{Stepped, stepped-more, stepped-end, Answered, answered-more, answered-end}
 use Rattle.laws.proofs.Search.{Passed, first-upto}
 
 -- ---- a state that each number below m changes in turn, and an answer list
-
-abbrev pub numbers : ℕ → List ℕ
-numbers m = listed m (λ j. j)
 
 module _ {S : Type 0} (step : ℕ → S → S) where
   pub round-more : {m k : ℕ} {s₀ s s′ : S} → Stepped step (numbers m) s₀ s k → k < m → s′ ≡ step k s → Stepped step (numbers m) s₀ s′ (k + 1)

@@ -11,7 +11,7 @@ use borrow.Author.Tests.{eqb-true, eqb-false, ltb-true, ltb-false, lt-ltb, le-lt
 use Rattle.laws.specs.Sums.{Sum}
 use Rattle.laws.specs.Tests.{each}
 
--- a loop that sums: it begins, a turn, it is done
+-- a loop that sums: it begins, a round, it is done
 pub sum-none : (f : ℕ → ℕ) → 0 ≡ Sum 0 f
 unfolding Sum
 sum-none f = refl
@@ -129,6 +129,16 @@ pub count-upto : (n : ℕ) (f : ℕ → Bool) → Sum n (λ i. cond (f i) 0 1) �
 unfolding Sum
 count-upto zero f = zero-le
 count-upto (suc n) f = omega (arith, count-upto n f, bit-small (f n))
+
+-- those that b holds of and the others are all
+pub count-both : (n : ℕ) (b : ℕ → Bool) → Sum n (λ i. cond (b i) 0 1) + Sum n (λ i. cond (b i) 1 0) ≡ n
+unfolding Sum
+count-both zero b = refl
+count-both (suc n) b = go (b n) (Sum n (λ i. cond (b i) 0 1)) (Sum n (λ i. cond (b i) 1 0)) (count-both n b)
+  where
+    go : (t : Bool) (p q : ℕ) → p + q ≡ n → (p + cond t 0 1) + (q + cond t 1 0) ≡ suc n
+    go true p q e = omega arith
+    go false p q e = omega arith
 
 -- there are none just where each holds
 pub count-each : (n : ℕ) (f : ℕ → Bool) → each n f ≡ eqb (Sum n (λ i. cond (f i) 0 1)) 0

@@ -47,7 +47,7 @@ or-second false b e f = e
 pub clash : {b : Bool} → b ≡ true → b ≡ false → ⊥
 clash {b} p q = let z : _≡_ {A = ℕ} 0 1 = cc in omega arith
 
--- ---- a loop that tests each number: it begins, a turn, it is done, it is left at i
+-- ---- a loop that tests each number: it begins, a round, it is done, it is left at i
 
 pub each-none : (f : ℕ → Bool) → each 0 f ≡ true
 unfolding each

@@ -37,6 +37,10 @@ module _ {A : Type 0} where
   listed zero f = []
   listed (suc n) f = f 0 ∷ listed n (λ k. f (suc k))
 
+-- 0, 1, .., n - 1
+abbrev pub numbers : ℕ → List ℕ
+numbers n = listed n (λ k. k)
+
 -- entry k of a list of numbers, 0 past its end
 abbrev pub at : List ℕ → ℕ → ℕ
 at xs k = getD xs k 0

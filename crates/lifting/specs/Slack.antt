@@ -12,7 +12,7 @@ abbrev pub Small : List ℕ → Type 0
 Small a = (k : ℕ) → k < length a → at a k ≤ leftOut
 
 -- what a search leaves, and slacks
-pub record Slacks (labels : List ℕ) (reach : ℕ) (slack : List ℕ) : Type 0 where
+pub record Tightenable (labels : List ℕ) (reach : ℕ) (slack : List ℕ) : Type 0 where
   pub same : length labels ≡ length slack
   pub searched : Searched labels reach
   pub small : Small slack

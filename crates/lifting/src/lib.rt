@@ -13,7 +13,7 @@ ghost use lib.ListN.{length};
 ghost use Rattle.laws.specs.Lists.{at};
 ghost use Rattle.matching.specs.Pairing.{none, leftOut, mostTracks};
 ghost use Rattle.passes.specs.Cells.{IsCell, far, keyPlaces};
-ghost use Rattle.lifting.specs.Slack.{Small, Slacks, Row, Bounded, Tightened, Spent, Beside, Raised};
+ghost use Rattle.lifting.specs.Slack.{Small, Tightenable, Row, Bounded, Tightened, Spent, Beside, Raised};
 
 // Both are under 2^31: a signed comparison is one instruction in a vector.
 fn greater(a: u32, b: u32) -> u32
@@ -45,7 +45,7 @@ pub fn bound_slack(cells: &[u32], price: u32, slack: &mut [u32])
 
 // After a search that ended at reach: a track that it went through has risen, and reaches report j as the search did.
 pub fn tighten(labels: &[u32], reach: u32, slack: &mut [u32])
-    requires { ⌜ Slacks (now labels) reach (now slack) ⌝ }
+    requires { ⌜ Tightenable (now labels) reach (now slack) ⌝ }
     ensures { λ _. ⌜ Tightened (now (labels .entry)) reach (now (slack .entry)) (now (slack .exit)) ⌝ }
 {
     let mut j: usize = 0;

@@ -9,8 +9,8 @@ use native.Mathlib.Nat.{eq-or-lt-of-le, lt-suc-self, mul-le-mul-right}
 use lib.Dec.{eqb, ltb}
 use borrow.Author.Tests.{eq-eqb, ne-eqb, eqb-false, lt-ltb}
 use Rattle.laws.specs.Sums.{Sum}
-use Rattle.laws.proofs.Sums.{sum-le, sum-add, sum-under, sum-less, sum-zero, sum-injective}
-use Rattle.matching.specs.Pairing.{none, scoreEnd, leftOut, mostTracks, Sheet, InRange, HasReport, ValidPairing, pairs, misses, scoreOr, scoreSum, total, Best, FairPrices}
+use Rattle.laws.proofs.Sums.{sum-le, sum-add, sum-under, sum-less, sum-zero, sum-injective, count-both}
+use Rattle.matching.specs.Pairing.{none, scoreEnd, leftOut, mostTracks, Sheet, InRange, HasReport, ValidPairing, pairs, missedTracks, scoreOr, scoreSum, total, Best, FairPrices}
 
 -- The highest scores of as many tracks as there may be come to less than one track left out: no saving in scores pays for that.
 pub leaving-out-is-never-cheap : mostTracks * (scoreEnd - 1) < leftOut
@@ -76,27 +76,18 @@ pub total-split : (S : Sheet) (P : ℕ → ℕ) → total S P + leftOut * pairs 
 unfolding total pairs scoreSum
 total-split S P = split-at (S .tracks) (λ i. eqb (P i) none) (λ i. S .cell i (P i))
 
-count-both : (n : ℕ) (b : ℕ → Bool) → Sum n (λ i. cond (b i) 0 1) + Sum n (λ i. cond (b i) 1 0) ≡ n
-unfolding Sum
-count-both zero b = refl
-count-both (suc n) b = go (b n) (Sum n (λ i. cond (b i) 0 1)) (Sum n (λ i. cond (b i) 1 0)) (count-both n b)
-  where
-    go : (t : Bool) (p q : ℕ) → p + q ≡ n → (p + cond t 0 1) + (q + cond t 1 0) ≡ suc n
-    go true p q e = omega arith
-    go false p q e = omega arith
-
 -- each track has a report or is left out
-pub pairs-and-misses : (S : Sheet) (P : ℕ → ℕ) → pairs S P + misses S P ≡ S .tracks
-unfolding pairs misses
+pub pairs-and-misses : (S : Sheet) (P : ℕ → ℕ) → pairs S P + missedTracks S P ≡ S .tracks
+unfolding pairs missedTracks
 pairs-and-misses S P = count-both (S .tracks) (λ i. eqb (P i) none)
 
 -- no track is left out, by the count and one by one
-pub misses-none : (S : Sheet) (P : ℕ → ℕ) → ((i : ℕ) → i < S .tracks → HasReport P i) → misses S P ≡ 0
-unfolding misses
+pub misses-none : (S : Sheet) (P : ℕ → ℕ) → ((i : ℕ) → i < S .tracks → HasReport P i) → missedTracks S P ≡ 0
+unfolding missedTracks
 misses-none S P all = sum-zero (S .tracks) _ (λ i l. rw (ne-eqb (P i) none (all i l)))
 
-pub no-misses : (S : Sheet) (P : ℕ → ℕ) → misses S P ≡ 0 → (i : ℕ) → i < S .tracks → HasReport P i
-unfolding misses
+pub no-misses : (S : Sheet) (P : ℕ → ℕ) → missedTracks S P ≡ 0 → (i : ℕ) → i < S .tracks → HasReport P i
+unfolding missedTracks
 no-misses S P z i l e =
     omega (arith, sum-less (S .tracks) i (λ k. 0) (λ k. cond (eqb (P k) none) 1 0) l (rw (eq-eqb (P i) none e) (lt-suc-self 0)) (λ k h. zero-le))
 

@@ -2,6 +2,6 @@
 pub mod Theorems
 pub mod Duality
 pub mod Same
-pub mod Unused
+pub mod FreeReport
 pub mod Facts
 pub mod Beyond

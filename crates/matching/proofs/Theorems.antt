@@ -11,14 +11,14 @@ use Rattle.laws.specs.Lists.{at, firstIndex}
 use Rattle.laws.specs.Tests.{refuse}
 use borrow.Author.Tests.{eq-eqb, eqb-true}
 use Rattle.laws.proofs.Tests.{refuse-none}
-use Rattle.matching.specs.Pairing.{none, Sheet, Admissible, InRange, HasReport, ValidPairing, pairs, misses, scoreSum, Best, Agree, Certificate, sheetOf, BestList}
+use Rattle.matching.specs.Pairing.{none, Sheet, Admissible, InRange, HasReport, ValidPairing, pairs, missedTracks, scoreSum, Best, Agree, Certificate, sheetOf, BestList}
 use Rattle.matching.specs.Answer.{Sizes, Fits, sizesOk, cellsOk, pairingOk, numbersOk, scoresOk, totalsOk, sheetRefusal, checkAnswer}
 use Rattle.matching.proofs.Duality as duality
 use Rattle.matching.proofs.Facts as facts
 -- the total measures 'most pairs, then least score': no saving in scores pays for leaving a track out
 pub use Rattle.matching.proofs.Duality.{leaving-out-is-never-cheap, scores-stay-under, least-total-is-best, best-has-least-total}
 -- a track left out has no admissible report that no track has
-pub use Rattle.matching.proofs.Unused.{no-report-unused}
+pub use Rattle.matching.proofs.FreeReport.{no-free-report}
 -- best over lists of report numbers, and best over functions, say the same
 pub use Rattle.matching.proofs.Same.{list-is-best, best-is-list}
 -- entries beyond those that the tracks and reports need are neither read nor judged
@@ -43,22 +43,22 @@ best-is-accepted S P Q u v c b =
 
 -- ---- best pairings
 
--- All best pairings of a sheet have the same number of pairs, the same sum of scores and the same total.
+-- All best pairings of a sheet have the same number of pairs and the same sum of scores.
 pub best-agree : (S : Sheet) (P Q : ℕ → ℕ) → Best S P → Best S Q → Agree S P Q
 best-agree S P Q b c =
     let e : pairs S P ≡ pairs S Q = omega (arith, duality.at-most (b .most Q (c .valid)), duality.at-most (c .most P (b .valid))) in
     let f : scoreSum S P ≡ scoreSum S Q =
     omega (arith, duality.at-most (b .least Q (c .valid) (sym e)), duality.at-most (c .least P (b .valid) e)) in
-    record { same-pairs = e; same-scores = f; same-total = omega (arith, duality.total-split S P, duality.total-split S Q) }
+    record { same-pairs = e; same-scores = f }
 
 -- Fewest misses: no valid pairing leaves fewer tracks out than a best one.
-pub fewest-misses : (S : Sheet) (P Q : ℕ → ℕ) → Best S P → ValidPairing S Q → misses S P ≤ misses S Q
+pub fewest-misses : (S : Sheet) (P Q : ℕ → ℕ) → Best S P → ValidPairing S Q → missedTracks S P ≤ missedTracks S Q
 fewest-misses S P Q b q =
     omega (arith, duality.at-most (b .most Q q), duality.pairs-and-misses S P, duality.pairs-and-misses S Q)
 
--- Where all tracks can be served at once, a best pairing serves them all.
-pub all-are-served : (S : Sheet) (P Q : ℕ → ℕ) → Best S P → ValidPairing S Q → ((i : ℕ) → i < S .tracks → HasReport Q i) → (i : ℕ) → i < S .tracks → HasReport P i
-all-are-served S P Q b q all =
+-- Where all tracks can have a report at once, a best pairing gives each one.
+pub all-are-paired : (S : Sheet) (P Q : ℕ → ℕ) → Best S P → ValidPairing S Q → ((i : ℕ) → i < S .tracks → HasReport Q i) → (i : ℕ) → i < S .tracks → HasReport P i
+all-are-paired S P Q b q all =
     duality.no-misses S P (omega (arith, fewest-misses S P Q b q, duality.misses-none S Q all))
 
 -- ---- the check's answer
@@ -134,9 +134,9 @@ pub record AcceptedNumbers (n m : ℕ) (s p u v : List ℕ) : Type 0 where
   pub ties : (q : List ℕ) → BestList (sheetOf n m s) q → Agree (sheetOf n m s) (at p) (at q)
   pub every : (q : List ℕ) → BestList (sheetOf n m s) q → checkAnswer n m s q u v ≡ 0
   -- no valid pairing leaves fewer tracks out
-  pub fewest : (q : List ℕ) → ValidPairing (sheetOf n m s) (at q) → misses (sheetOf n m s) (at p) ≤ misses (sheetOf n m s) (at q)
-  -- where all tracks can be served at once, all are
-  pub served : (q : List ℕ) → ValidPairing (sheetOf n m s) (at q) → ((i : ℕ) → i < n → HasReport (at q) i) → (i : ℕ) → i < n → HasReport (at p) i
+  pub fewest : (q : List ℕ) → ValidPairing (sheetOf n m s) (at q) → missedTracks (sheetOf n m s) (at p) ≤ missedTracks (sheetOf n m s) (at q)
+  -- where all tracks can have a report at once, all have one
+  pub paired : (q : List ℕ) → ValidPairing (sheetOf n m s) (at q) → ((i : ℕ) → i < n → HasReport (at q) i) → (i : ℕ) → i < n → HasReport (at p) i
   -- an admissible report of a track left out is some track's
   pub used : (i j : ℕ) → i < n → at p i ≡ none → j < m → Admissible (sheetOf n m s) i j → (k : ℕ) × ((k < n) × (at p k ≡ j))
 
@@ -150,8 +150,8 @@ zero-says n m s p u v e =
       ties = λ q c. best-agree S (at p) (at q) b (list-is-best S q c);
       every = λ q c. best-is-zero n m s p q u v e (c .long) (list-is-best S q c);
       fewest = λ q. fewest-misses S (at p) (at q) b;
-      served = λ q. all-are-served S (at p) (at q) b;
-      used = no-report-unused S (at p) b (omega (arith, z .reports-few));
+      paired = λ q. all-are-paired S (at p) (at q) b;
+      used = no-free-report S (at p) b (omega (arith, z .reports-few));
     }
 
 -- ---- the order of the answers

@@ -60,8 +60,8 @@ unfoldable pub pairs : Sheet → (ℕ → ℕ) → ℕ
 pairs S P = Sum (S .tracks) (λ i. cond (eqb (P i) none) 0 1)
 
 -- how many are left out
-unfoldable pub misses : Sheet → (ℕ → ℕ) → ℕ
-misses S P = Sum (S .tracks) (λ i. cond (eqb (P i) none) 1 0)
+unfoldable pub missedTracks : Sheet → (ℕ → ℕ) → ℕ
+missedTracks S P = Sum (S .tracks) (λ i. cond (eqb (P i) none) 1 0)
 
 -- the score of track i's pair, or c where it is left out
 abbrev pub scoreOr : ℕ → Sheet → (ℕ → ℕ) → ℕ → ℕ
@@ -81,11 +81,10 @@ pub record Best (S : Sheet) (P : ℕ → ℕ) : Type 0 where
   pub most : (Q : ℕ → ℕ) → ValidPairing S Q → pairs S P < pairs S Q → ⊥
   pub least : (Q : ℕ → ℕ) → ValidPairing S Q → pairs S Q ≡ pairs S P → scoreSum S Q < scoreSum S P → ⊥
 
--- as many pairs, the same sum of scores and so the same total, as all best pairings of a sheet have
+-- as many pairs and the same sum of scores, as all best pairings of a sheet have
 pub record Agree (S : Sheet) (P Q : ℕ → ℕ) : Type 0 where
   pub same-pairs : pairs S P ≡ pairs S Q
   pub same-scores : scoreSum S P ≡ scoreSum S Q
-  pub same-total : total S P ≡ total S Q
 
 -- ---- what shows that a pairing is best
 

@@ -13,7 +13,7 @@ pub next-lies : (s : ℕ) → nextSector s < sectors
 unfolding nextSector
 next-lies s = omega arith
 
--- the wait is one of 16..47
+-- j is one of 16..47
 pub ahead-soonest : (s p : ℕ) → soonest ≤ callsAhead s p
 unfolding callsAhead
 ahead-soonest s p = omega arith

@@ -7,18 +7,18 @@ use native.Mathlib.Omega.{arith}
 use lib.ListN.{length, set, length-set}
 use lib.Seq.{getD-set-same, getD-set-other}
 use Rattle.laws.specs.Lists.{at}
-use Rattle.passes.specs.Cells.{Paid, Lifted}
+use Rattle.passes.specs.Cells.{Paid, RaisedOne}
 use Rattle.laws.proofs.Stores.{same-or, le-or-lt}
 
 -- place is the track, as an index
-pub lifted-set : (prices : List ℕ) (track rise place : ℕ) → place ≡ track → (rise ≡ 0) ⊎ ((track < length prices) × (at prices track + rise < 2 ^ 32)) → 0 < rise → Lifted prices track rise (set prices place (at prices place + rise))
+pub lifted-set : (prices : List ℕ) (track rise place : ℕ) → place ≡ track → (rise ≡ 0) ⊎ ((track < length prices) × (at prices track + rise < 2 ^ 32)) → 0 < rise → RaisedOne prices track rise (set prices place (at prices place + rise))
 lifted-set prices track rise place e p h = rw e (record {
   prices-long = simp length-set refl;
   others = λ k d. getD-set-other prices track k (at prices track + rise) 0 d;
   here = getD-set-same prices track (at prices track + rise) 0 (⊎-elim (λ z. absurd (omega arith)) (λ a. a .0) p);
 })
 
-pub lifted-not : (prices : List ℕ) (track rise : ℕ) → rise ≤ 0 → Lifted prices track rise prices
+pub lifted-not : (prices : List ℕ) (track rise : ℕ) → rise ≤ 0 → RaisedOne prices track rise prices
 lifted-not prices track rise h = record { prices-long = refl; others = λ k d. refl; here = omega arith }
 
 -- the prices, with the reports below j done
@@ -33,7 +33,7 @@ module _ (pairing owner labels prices₀ : List ℕ) (reach : ℕ) (P : Paid pai
       inr (omega (arith, b .0), omega (arith, so-far (at owner j) (b .0) .1 (omega (arith, b .1)), P .small (at owner j) (b .0))))
       (le-or-lt reach (at labels j))
 
-  module _ (prices′ : List ℕ) (L : Lifted prices (at owner j) rise prices′) where
+  module _ (prices′ : List ℕ) (L : RaisedOne prices (at owner j) rise prices′) where
     hit : (i : ℕ) → i < length prices₀ → at pairing i ≡ j → at prices′ i ≡ at prices i + rise
     hit i h q =
         let e : at owner j ≡ i = sym (ap (at owner) q) ∙ P .mine i h (omega arith) in

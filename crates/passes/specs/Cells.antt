@@ -124,7 +124,7 @@ pub record Paid (pairing owner labels prices : List ℕ) (reach : ℕ) : Type 0 
   pub near : (j : ℕ) → j < length labels → at labels j < reach → (at owner j < length prices) × (at pairing (at owner j) ≡ j)
 
 -- one track's price has risen
-pub record Lifted (prices : List ℕ) (track rise : ℕ) (prices′ : List ℕ) : Type 0 where
+pub record RaisedOne (prices : List ℕ) (track rise : ℕ) (prices′ : List ℕ) : Type 0 where
   pub prices-long : length prices′ ≡ length prices
   pub others : (k : ℕ) → (k ≡ track → ⊥) → at prices′ k ≡ at prices k
   pub here : at prices′ track ≡ at prices track + rise

@@ -10,7 +10,7 @@ ghost use lib.ListN.{length};
 ghost use mathlib.Core.Logic.{_⊎_};
 ghost use Rattle.laws.specs.Lists.{at};
 ghost use Rattle.matching.specs.Pairing.{none, leftOut};
-ghost use Rattle.passes.specs.Cells.{IsCell, far, keyPlaces, key, Keyed, RowLeast, Fair, Relaxed, Labels, FromLabels, Low, Found, near, Near, Nearest, Searched, Paid, Lifted, PricesUp, DiscountsUp};
+ghost use Rattle.passes.specs.Cells.{IsCell, far, keyPlaces, key, Keyed, RowLeast, Fair, Relaxed, Labels, FromLabels, Low, Found, near, Near, Nearest, Searched, Paid, RaisedOne, PricesUp, DiscountsUp};
 
 // Above every label, and above what an admissible pair adds to one.
 pub const FAR: u32 = 1073741824;
@@ -203,7 +203,7 @@ pub fn open_from(closings: &[u32], front: usize) -> usize
 // One track's price rises; a rise of 0 may name no track.
 fn raise_one(prices: &mut [u32], track: u32, rise: u32)
     requires { ⌜ (rise ≡ 0) ⊎ ((track < length (now prices)) × (at (now prices) track + rise < 2 ^ 32)) ⌝ }
-    ensures { λ _. ⌜ Lifted (now (prices .entry)) track rise (now (prices .exit)) ⌝ }
+    ensures { λ _. ⌜ RaisedOne (now (prices .entry)) track rise (now (prices .exit)) ⌝ }
 {
     if rise > 0 {
         let place = index(track);

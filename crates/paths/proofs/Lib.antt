@@ -2,6 +2,6 @@
 pub mod Rows
 pub mod Advance
 pub mod Growth
-pub mod Lift
+pub mod Raised
 pub mod Swap
-pub mod Settle
+pub mod Finished

@@ -124,7 +124,7 @@ pub record Offerable (cells : List ℕ) (m front i from : ℕ) (prices discounts
   pub labels-in : (j : ℕ) → j < m → at labels j ≤ leftOut
 
 -- the working lists of a search
-pub record Rooms (m : ℕ) (labels via closings : List ℕ) : Type 0 where
+pub record SearchLists (m : ℕ) (labels via closings : List ℕ) : Type 0 where
   pub labels-long : length labels ≡ m
   pub via-long : length via ≡ m
   pub closings-long : length closings ≡ m
@@ -134,7 +134,7 @@ pub record Searchable (cells : List ℕ) (m track : ℕ) (pairing owner prices d
   pub good : Good cells m (length prices) pairing owner prices discounts
   pub track-in : track < length prices
   pub unpaired : at pairing track ≡ none
-  pub rooms : Rooms m labels via closings
+  pub rooms : SearchLists m labels via closings
 
 -- the reports before front are closed
 pub record Front (front m : ℕ) (closings : List ℕ) : Type 0 where
@@ -226,8 +226,8 @@ pub record Flipped (cells : List ℕ) (m n : ℕ) (prices discounts : List ℕ) 
   pub kept : (i : ℕ) → i < n → at pairing i < m → at pairing′ i < m
 
 -- the track that is left out, at the full price: the one that comes in, or one whose report is closed
-abbrev pub LeftOut : ℕ → ℕ → List ℕ → List ℕ → ℕ → List ℕ → ℕ → Type 0
-LeftOut m n pairing prices track closings leaver = ((leaver ≡ track) × (at prices track ≡ leftOut))
+abbrev pub OutAtFullPrice : ℕ → ℕ → List ℕ → List ℕ → ℕ → List ℕ → ℕ → Type 0
+OutAtFullPrice m n pairing prices track closings leaver = ((leaver ≡ track) × (at prices track ≡ leftOut))
     ⊎ ((leaver < n) × ((at pairing leaver < m) × ((far ≤ at closings (at pairing leaver)) × (at prices leaver ≡ leftOut))))
 
 -- the pairing is to be changed along the way back from a free report, or from the report of a track that is left out
@@ -240,25 +240,25 @@ pub record Finishable (cells : List ℕ) (m n : ℕ) (prices discounts : List �
   pub matched : Match cells m n pairing owner prices discounts none
   pub way-back : (b : ℕ) → WayBack cells m n pairing prices discounts track via closings b
   pub end : ((report < m) × ((at owner report ≡ none) × (far ≤ at closings report)))
-      ⊎ ((report ≡ none) × LeftOut m n pairing prices track closings leaver)
+      ⊎ ((report ≡ none) × OutAtFullPrice m n pairing prices track closings leaver)
 
 -- track i is paired, or left out at the full price
-abbrev pub Done : ℕ → List ℕ → List ℕ → ℕ → Type 0
-Done m pairing prices i = (at pairing i < m) ⊎ (at prices i ≡ leftOut)
+abbrev pub PairedOrOut : ℕ → List ℕ → List ℕ → ℕ → Type 0
+PairedOrOut m pairing prices i = (at pairing i < m) ⊎ (at prices i ≡ leftOut)
 
 -- the pairing once it is changed: only a track at the full price has lost its report
-pub record Settled (cells : List ℕ) (m n : ℕ) (prices discounts : List ℕ) (track : ℕ) (pairing owner pairing′ owner′ : List ℕ) : Type 0 where
+pub record Finished (cells : List ℕ) (m n : ℕ) (prices discounts : List ℕ) (track : ℕ) (pairing owner pairing′ owner′ : List ℕ) : Type 0 where
   pub shape : Shape cells m n pairing′ owner′ prices discounts
   pub moved : Moved m n track pairing owner pairing′ owner′
   pub matched : Match cells m n pairing′ owner′ prices discounts none
-  pub done : (i : ℕ) → i < n → at pairing i < m → Done m pairing′ prices i
-  pub track-done : Done m pairing′ prices track
+  pub done : (i : ℕ) → i < n → at pairing i < m → PairedOrOut m pairing′ prices i
+  pub track-done : PairedOrOut m pairing′ prices track
 
 -- what an insertion gives: fair prices and a pairing again, and the tracks that are done stay so
 pub record Inserted (cells : List ℕ) (m n track : ℕ) (pairing prices pairing′ owner′ prices′ discounts′ : List ℕ) : Type 0 where
   pub good : Good cells m n pairing′ owner′ prices′ discounts′
-  pub done : (i : ℕ) → i < n → Done m pairing prices i → Done m pairing′ prices′ i
-  pub track-done : Done m pairing′ prices′ track
+  pub done : (i : ℕ) → i < n → PairedOrOut m pairing prices i → PairedOrOut m pairing′ prices′ i
+  pub track-done : PairedOrOut m pairing′ prices′ track
 
 -- how far the prices rose: of a track in a pair, before it meets the score of a free report, there is left what the search had still to go
 pub record Reached (cells : List ℕ) (m n : ℕ) (pairing owner prices labels : List ℕ) (reach : ℕ) (pairing′ owner′ prices′ : List ℕ) : Type 0 where

@@ -16,7 +16,7 @@ ghost use mathlib.Core.Path.{_≡_};
 ghost use mathlib.Core.Bool.{true};
 ghost use lib.ListN.{length};
 ghost use Rattle.laws.specs.Lists.{at};
-ghost use Rattle.paths.specs.State.{Offered, Offerable, Searchable, Standing, isTaken, Endable, EndsAt, Ended, Flips, Flipped, Finishable, Settled, Inserted, Reached};
+ghost use Rattle.paths.specs.State.{Offered, Offerable, Searchable, Standing, isTaken, Endable, EndsAt, Ended, Flips, Flipped, Finishable, Finished, Inserted, Reached};
 
 // Where a search stands: what leaving a track out would cost, and which; how many reports are closed, before which report all are,
 // and the nearest open one, the number of reports if none is nearer than leaving a track out.
@@ -273,7 +273,7 @@ fn finish(
     owner: &mut [u32],
 )
     requires { ⌜ Finishable (now sheet) reports (length (now prices)) (now prices) (now discounts) track (now via) (now closings) report leaver (now pairing) (now owner) ⌝ }
-    ensures { λ _. ⌜ Settled (now (sheet .entry)) reports (length (now (prices .entry))) (now (prices .entry)) (now (discounts .entry)) track (now (pairing .entry)) (now (owner .entry)) (now (pairing .exit)) (now (owner .exit)) ⌝ }
+    ensures { λ _. ⌜ Finished (now (sheet .entry)) reports (length (now (prices .entry))) (now (prices .entry)) (now (discounts .entry)) track (now (pairing .entry)) (now (owner .entry)) (now (pairing .exit)) (now (owner .exit)) ⌝ }
 {
     if report != NONE {
         flip(

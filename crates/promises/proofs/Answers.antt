@@ -19,7 +19,7 @@ use Rattle.fates.specs.Fates.{slotsOf, shownOf}
 use Rattle.fates.proofs.Answers.{length-fates, length-slots, length-shown}
 use Rattle.sector.specs.declared.Counts.{Counts}
 use Rattle.sector.specs.Serve.{Lent, Chosen, Choice, reportsIn, fatesIn, afterOf, ServedWith}
-use Rattle.promises.specs.Words.{TrackServed, SeenServed, AnswersTold}
+use Rattle.promises.specs.Words.{TrackContinued, SeenContinued, AnswersTold}
 use Rattle.promises.proofs.Pairings.{valid-pairing, every-due-track-is-paired}
 use Rattle.promises.proofs.Reports.{rank-is, pairing-is-read-off, shown-exactly-when}
 use Rattle.promises.proofs.Slots.{paired-slot-after}
@@ -49,9 +49,9 @@ answers-are-told i l l′ counts s j here = rw (s .left) (told-after i (s .chose
 
 module _ (i : Input) (c : Chosen) (h : Choice i c) where
   -- A due track that is paired: its report is told paired, in the track's slot, and is shown where the track had two updates or more.
-  pub paired-track-is-served : (rank : ℕ) → rank < tracksOf i → HasReport (at (c .pairing)) rank → TrackServed i (c .pairing) rank
+  pub paired-track-is-continued : (rank : ℕ) → rank < tracksOf i → HasReport (at (c .pairing)) rank → TrackContinued i (c .pairing) rank
   unfolding sectorSheet
-  paired-track-is-served rank l p =
+  paired-track-is-continued rank l p =
       let here : at (c .pairing) rank < reportsOf i = valid-pairing i c h .there rank l p in
       record {
         report = at (c .pairing) rank;
@@ -63,10 +63,10 @@ module _ (i : Input) (c : Chosen) (h : Choice i c) where
 
 -- The glider: where some one-to-one pairing of admissible pairs serves every due track, the call continues every due track: the answer says so,
 -- shows each that had two updates or more, and the table holds the track as its report updates it.
-pub glider : (i : Input) (l l′ : Lent) (counts : Counts) → ServedWith i l l′ counts → (Q : ℕ → ℕ) → ValidPairing (sectorSheet i) Q → ((rank : ℕ) → rank < tracksOf i → HasReport Q rank) → (rank : ℕ) → rank < tracksOf i → SeenServed i l′ rank
+pub glider : (i : Input) (l l′ : Lent) (counts : Counts) → ServedWith i l l′ counts → (Q : ℕ → ℕ) → ValidPairing (sectorSheet i) Q → ((rank : ℕ) → rank < tracksOf i → HasReport Q rank) → (rank : ℕ) → rank < tracksOf i → SeenContinued i l′ rank
 glider i l l′ counts s Q q all rank b =
     let p : HasReport (at (s .chosen .pairing)) rank = every-due-track-is-paired i (s .chosen) (s .choice) Q q all rank b in
-    let w : TrackServed i (s .chosen .pairing) rank = paired-track-is-served i (s .chosen) (s .choice) rank b p in
+    let w : TrackContinued i (s .chosen .pairing) rank = paired-track-is-continued i (s .chosen) (s .choice) rank b p in
     let a : AnswersTold i (s .chosen) l′ (w .report) = answers-are-told i l l′ counts s (w .report) (w .here) in
     record {
       report = w .report;
@@ -102,7 +102,7 @@ module _ (i : Input) (l l′ : Lent) (n m : Counts) (s : ServedWith i l l′ n) 
   -- a due track that one of two pairings with the same answer serves has the same report in the other
   same-report : (rank : ℕ) → rank < tracksOf i → HasReport (at (t .chosen .pairing)) rank → at (s .chosen .pairing) rank ≡ at (t .chosen .pairing) rank
   same-report rank b p =
-      let w : TrackServed i (t .chosen .pairing) rank = paired-track-is-served i (t .chosen) (t .choice) rank b p in
+      let w : TrackContinued i (t .chosen .pairing) rank = paired-track-is-continued i (t .chosen) (t .choice) rank b p in
       let a : AnswersTold i (s .chosen) l′ (w .report) = answers-are-told i l l′ n s (w .report) (w .here) in
       let d : AnswersTold i (t .chosen) l′ (w .report) = answers-are-told i l l′ m t (w .report) (w .here) in
       pairing-is-read-off i (s .chosen) (s .choice) (w .report) (w .here) rank b .1

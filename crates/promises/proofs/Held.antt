@@ -58,9 +58,10 @@ aged-mark : (slot : List ℕ) → eqb (at (bytesOf (agedOf (trackOf slot))) mark
 unfolding bytesOf agedOf trackOf
 aged-mark slot = refl
 
-aged-held : (slot : List ℕ) → isHeld (agedSlot slot) ≡ isHeld slot
+-- ageing leaves the mark
+pub aged-mark-same : (slot : List ℕ) → isHeld (agedSlot slot) ≡ isHeld slot
 unfolding agedSlot
-aged-held slot = go (eqb (at slot markAt) held) refl
+aged-mark-same slot = go (eqb (at slot markAt) held) refl
   where
     go : (b : Bool) → eqb (at slot markAt) held ≡ b → eqb (at (cond b (bytesOf (agedOf (trackOf slot))) slot) markAt) held ≡ eqb (at slot markAt) held
     go true e = aged-mark slot
@@ -99,7 +100,7 @@ slot-keeps s batch P slot rank gone w = go (slotDue slot) refl (eqb (at P rank) 
     go : (b : Bool) → slotDue slot ≡ b → (n : Bool) → eqb (at P rank) none ≡ n → one (cond b (cond n (missedSlot s slot) (pairedSlot s (getD batch (at P rank) []) slot)) (agedSlot slot)) + cond b gone 0 ≡ one slot
     go true d true e = rw (due-held slot d, w d, e) (missed-held s slot)
     go true d false e = rw (due-held slot d, w d, e, paired-held s (getD batch (at P rank) []) slot) refl
-    go false d n e = rw (aged-held slot) (omega arith)
+    go false d n e = rw (aged-mark-same slot) (omega arith)
 
 rank-lost : (i : Input) (P : List ℕ) (k : ℕ) → k < length (i .table) → slotDue (getD (i .table) k []) ≡ true → lost i P (rankOf (i .table) k) ≡ cond (eqb (at P (rankOf (i .table) k)) none) (droppedOne (withoutPair (trackOf (getD (i .table) k [])) (i .sector))) 0
 unfolding missedAt

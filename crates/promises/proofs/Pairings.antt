@@ -10,9 +10,9 @@ use Rattle.scoring.specs.declared.Scored.the-variants.{NotAdmissible, Score}
 use Rattle.scoring.specs.Score.{scoreOf}
 use Rattle.scoring.proofs.ScoreLaws.{score-below}
 use Rattle.laws.specs.Lists.{at}
-use Rattle.matching.specs.Pairing.{none, scoreEnd, Admissible, HasReport, ValidPairing, misses, Best}
+use Rattle.matching.specs.Pairing.{none, scoreEnd, Admissible, HasReport, ValidPairing, missedTracks, Best}
 use Rattle.matching.specs.Answer.{Fits, checkAnswer}
-use Rattle.matching.proofs.Theorems.{zero-certificate, best-is-zero, fewest-misses, all-are-served, no-report-unused}
+use Rattle.matching.proofs.Theorems.{zero-certificate, best-is-zero, fewest-misses, all-are-paired, no-free-report}
 use Rattle.intake.specs.Refusals.{Input}
 use Rattle.scoresheet.specs.Cells.{cellOf, tracksOf, reportsOf, cellsOf, dueTrack, sectorSheet}
 use Rattle.scoresheet.proofs.SheetLaws.{cell-is}
@@ -50,18 +50,18 @@ module _ (i : Input) (c : Chosen) (h : Choice i c) where
   valid-pairing = best-of-the-sector i c h .valid
 
   -- No one-to-one pairing of admissible pairs leaves fewer due tracks out.
-  pub fewest-misses-of-the-sector : (Q : ℕ → ℕ) → ValidPairing (sectorSheet i) Q → misses (sectorSheet i) (at (c .pairing)) ≤ misses (sectorSheet i) Q
+  pub fewest-misses-of-the-sector : (Q : ℕ → ℕ) → ValidPairing (sectorSheet i) Q → missedTracks (sectorSheet i) (at (c .pairing)) ≤ missedTracks (sectorSheet i) Q
   fewest-misses-of-the-sector Q q = fewest-misses (sectorSheet i) (at (c .pairing)) Q (best-of-the-sector i c h) q
 
   -- A due track is left out only where every report that is admissible for it is some due track's.
   pub no-free-report-for-a-missed-track : (rank j : ℕ) → rank < tracksOf i → at (c .pairing) rank ≡ none → j < reportsOf i → Admissible (sectorSheet i) rank j → (other : ℕ) × ((other < tracksOf i) × (at (c .pairing) other ≡ j))
   unfolding sectorSheet
-  no-free-report-for-a-missed-track rank j l m r a = no-report-unused (sectorSheet i) (at (c .pairing)) (best-of-the-sector i c h) few-reports rank j l m r a
+  no-free-report-for-a-missed-track rank j l m r a = no-free-report (sectorSheet i) (at (c .pairing)) (best-of-the-sector i c h) few-reports rank j l m r a
 
   -- Where some one-to-one pairing of admissible pairs serves every due track, every due track is paired.
   pub every-due-track-is-paired : (Q : ℕ → ℕ) → ValidPairing (sectorSheet i) Q → ((rank : ℕ) → rank < tracksOf i → HasReport Q rank) → (rank : ℕ) → rank < tracksOf i → HasReport (at (c .pairing)) rank
   unfolding sectorSheet
-  every-due-track-is-paired Q q all = all-are-served (sectorSheet i) (at (c .pairing)) Q (best-of-the-sector i c h) q all
+  every-due-track-is-paired Q q all = all-are-paired (sectorSheet i) (at (c .pairing)) Q (best-of-the-sector i c h) q all
 
   -- One to one: two due tracks with the same report are the same track.
   pub one-to-one : (rank other : ℕ) → rank < tracksOf i → other < tracksOf i → HasReport (at (c .pairing)) rank → at (c .pairing) rank ≡ at (c .pairing) other → rank ≡ other

@@ -31,7 +31,7 @@ use Rattle.fates.proofs.Telling.{fateOut, slotOut}
 use Rattle.fates.proofs.Starts.{tableAt}
 use Rattle.fates.proofs.Answers.{shown-at}
 use Rattle.sector.specs.Serve.{Chosen, Choice, reportsIn, fatesIn}
-use Rattle.promises.specs.Words.{fateAt, toldSlotOf, shownAt, updatesBefore, PairedWithOld, ToldPaired, ShownExactlyWhen}
+use Rattle.promises.specs.Words.{fateAt, toldSlotAt, shownAt, updatesBefore, PairedWithOld, ToldPaired, ShownExactlyWhen}
 use Rattle.promises.proofs.Pairings.{few-reports, one-to-one}
 
 -- ---- due tracks have slots of their own
@@ -95,7 +95,7 @@ module _ (i : Input) (P : List ℕ) (j : ℕ) (here : j < reportsOf i) where
   unfolding fatesIn fatesOf reportNumbers reportsOf
   fate-is = told-at (afterReport (reportsIn i) P) (fateOut (reportsIn i) P) (length (i .batch)) (λ k. k) (settledTable i P) j 0 here
 
-  pub slot-is : toldSlotOf i P j ≡ toldOf (reportsIn i) P j (tableAt (reportsIn i) P j (settledTable i P)) .slot
+  pub slot-is : toldSlotAt i P j ≡ toldOf (reportsIn i) P j (tableAt (reportsIn i) P j (settledTable i P)) .slot
   unfolding slotsOf reportNumbers reportsOf
   slot-is = told-at (afterReport (reportsIn i) P) (slotOut (reportsIn i) P) (length (i .batch)) (λ k. k) (settledTable i P) j 0 here
 
@@ -108,7 +108,7 @@ module _ (i : Input) (P : List ℕ) (j : ℕ) (here : j < reportsOf i) where
       ⊎-elim (λ m. absurd (told-unpaired (reportsIn i) P j _ m (sym fate-is ∙ e))) (λ m. m) (le-or-lt (length P) (ownerOf P j))
 
   -- and the slot is that of the due track of that rank
-  pub paired-slot : ownerOf P j < length P → toldSlotOf i P j ≡ dueSlot i (ownerOf P j)
+  pub paired-slot : ownerOf P j < length P → toldSlotAt i P j ≡ dueSlot i (ownerOf P j)
   unfolding slotOf
   paired-slot l = slot-is ∙ told-paired (reportsIn i) P j _ l .1
 
@@ -147,7 +147,7 @@ module _ (i : Input) (c : Chosen) (h : Choice i c) (j : ℕ) (here : j < reports
           rw e at (owner-has (c .pairing) j o)
 
 -- One to one, in the answer's words: two reports that are told paired with the same slot are the same report.
-pub one-slot-one-report : (i : Input) (c : Chosen) → Choice i c → (j k : ℕ) → j < reportsOf i → k < reportsOf i → fateAt i (c .pairing) j ≡ paired → fateAt i (c .pairing) k ≡ paired → toldSlotOf i (c .pairing) j ≡ toldSlotOf i (c .pairing) k → j ≡ k
+pub one-slot-one-report : (i : Input) (c : Chosen) → Choice i c → (j k : ℕ) → j < reportsOf i → k < reportsOf i → fateAt i (c .pairing) j ≡ paired → fateAt i (c .pairing) k ≡ paired → toldSlotAt i (c .pairing) j ≡ toldSlotAt i (c .pairing) k → j ≡ k
 one-slot-one-report i c h j k a b f g e =
     let oj : ownerOf (c .pairing) j < length (c .pairing) = paired-only i (c .pairing) j a f in
     let ok : ownerOf (c .pairing) k < length (c .pairing) = paired-only i (c .pairing) k b g in

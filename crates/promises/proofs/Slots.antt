@@ -29,17 +29,17 @@ use Rattle.walk.specs.Table.{missedSlot, agedSlot, settledSlot, settledTable}
 use Rattle.walk.proofs.Slots.{missed-kept, missed-dropped}
 use Rattle.walk.proofs.Settled.{settled-length, settled-at}
 use Rattle.fates.specs.Fates.{started, Handed, freeSlot, ownerOf, toldPaired, toldUnpaired, toldOf, afterUnpaired, afterReport, reportNumbers, startedTable}
-use Rattle.fates.proofs.Starts.{report-keeps, tableAt, length-at, start-elsewhere, held-at, held-slots-kept}
+use Rattle.fates.proofs.Starts.{report-keeps, tableAt, length-at, start-elsewhere, held-at, held-slots-kept, newSlot}
 use Rattle.sector.specs.declared.Counts.{Counts}
 use Rattle.sector.specs.Serve.{Lent, reportsIn, afterOf, ServedWith}
-use Rattle.promises.specs.Words.{fateAt, toldSlotOf, StartedThere, LeftOrStarted}
+use Rattle.promises.specs.Words.{fateAt, toldSlotAt, StartedThere, LeftOrStarted}
 use Rattle.promises.proofs.Reports.{rank-is, settled-due, fate-is, slot-is, updated-held}
 
 -- ---- as pairing leaves a slot
 
-missed-held : (t : Track) (s : ℕ) → isFree (bytesOf (coastedOf t s)) ≡ false
+coasted-not-free : (t : Track) (s : ℕ) → isFree (bytesOf (coastedOf t s)) ≡ false
 unfolding bytesOf coastedOf
-missed-held t s = refl
+coasted-not-free t s = refl
 
 lies : (i : Input) (rank : ℕ) → rank < tracksOf i → dueSlot i rank < length (i .table)
 unfolding tracksOf
@@ -62,13 +62,9 @@ module _ (i : Input) (P : List ℕ) where
 
 -- ---- one report
 
--- what a report that starts a track stores
-abbrev newTrack : Handed → ℕ → List ℕ
-newTrack h j = bytesOf (startedOf (reportOf (getD (h .batch) j [])) (h .sector))
-
-new-held : (h : Handed) (j : ℕ) → isFree (newTrack h j) ≡ false
+new-not-free : (h : Handed) (j : ℕ) → isFree (newSlot h j) ≡ false
 unfolding bytesOf startedOf
-new-held h j = refl
+new-not-free h j = refl
 
 -- the lowest free slot is free
 free-found : (table : List (List ℕ)) → freeSlot table < length table → isFree (getD table (freeSlot table) []) ≡ true
@@ -80,7 +76,7 @@ module _ (h : Handed) (P : List ℕ) (j : ℕ) (table : List (List ℕ)) where
     pub room : freeSlot table < length table
     pub fate : toldOf h P j table .fate ≡ started
     pub slot : toldOf h P j table .slot ≡ freeSlot table
-    pub after : afterReport h P j table ≡ set table (freeSlot table) (newTrack h j)
+    pub after : afterReport h P j table ≡ set table (freeSlot table) (newSlot h j)
 
   record NoStart : Type 0 where
     pub fate : toldOf h P j table .fate ≡ started → ⊥
@@ -113,19 +109,19 @@ module _ {B S : Type 0} (step : B → S → S) where
   keep-from Q keeps (suc n) f s (suc j) l q = keep-from Q keeps n (λ k. f (suc k)) (step (f 0) s) j (le-of-suc-le-suc l) q
 
 -- the track that report j starts is there when all reports are told
-start-stays : (h : Handed) (P : List ℕ) (table : List (List ℕ)) (j : ℕ) → j < length (h .batch) → Start h P j (tableAt h P j table) → getD (startedTable h P table) (freeSlot (tableAt h P j table)) [] ≡ newTrack h j
+start-stays : (h : Handed) (P : List ℕ) (table : List (List ℕ)) (j : ℕ) → j < length (h .batch) → Start h P j (tableAt h P j table) → getD (startedTable h P table) (freeSlot (tableAt h P j table)) [] ≡ newSlot h j
 unfolding startedTable reportNumbers
 start-stays h P table j here w =
     keep-from (afterReport h P) Q
-    (λ n t q. report-keeps Q h P n t q (start-elsewhere t k _ (rw q (new-held h j)) ∙ q))
+    (λ n t q. report-keeps Q h P n t q (start-elsewhere t k _ (rw q (new-not-free h j)) ∙ q))
     (length (h .batch)) (λ n. n) table j here
-    (rw (w .after) (getD-set-same (tableAt h P j table) k (newTrack h j) [] (w .room)))
+    (rw (w .after) (getD-set-same (tableAt h P j table) k (newSlot h j) [] (w .room)))
   where
     k : ℕ
     k = freeSlot (tableAt h P j table)
 
     Q : List (List ℕ) → Type 0
-    Q t = getD t k [] ≡ newTrack h j
+    Q t = getD t k [] ≡ newSlot h j
 
 module _ (i : Input) (P : List ℕ) (k : ℕ) (l : k < length (i .table)) where
   -- the table as report n finds it
@@ -139,7 +135,7 @@ module _ (i : Input) (P : List ℕ) (k : ℕ) (l : k < length (i .table)) where
   step : (n : ℕ) → n < reportsOf i → So (met n) → So (afterReport (reportsIn i) P n (met n))
   step n b before = ⊎-elim starts (λ w. rw (w .after) before) (starts-or-not (reportsIn i) P n (met n))
     where
-      here-now : Start (reportsIn i) P n (met n) → k ≡ freeSlot (met n) → StartedThere i P n k (getD (set (met n) (freeSlot (met n)) (newTrack (reportsIn i) n)) k [])
+      here-now : Start (reportsIn i) P n (met n) → k ≡ freeSlot (met n) → StartedThere i P n k (getD (set (met n) (freeSlot (met n)) (newSlot (reportsIn i) n)) k [])
       here-now w e =
           let f : isFree (getD (met n) k []) ≡ true = rw e (free-found (met n) (w .room)) in
           record {
@@ -147,14 +143,14 @@ module _ (i : Input) (P : List ℕ) (k : ℕ) (l : k < length (i .table)) where
             lies = l;
             fate = fate-is i P n b ∙ w .fate;
             told = slot-is i P n b ∙ w .slot ∙ sym e;
-            found-free = ⊎-elim (λ q. rw (← q) f) (λ q. absurd (clash f (rw (q .1 .holds) (new-held (reportsIn i) (q .0))))) before;
-            holds = rw (← e) (getD-set-same (met n) k (newTrack (reportsIn i) n) [] (rw (length-at (reportsIn i) P n (settledTable i P), settled-length i P) l));
+            found-free = ⊎-elim (λ q. rw (← q) f) (λ q. absurd (clash f (rw (q .1 .holds) (new-not-free (reportsIn i) (q .0))))) before;
+            holds = rw (← e) (getD-set-same (met n) k (newSlot (reportsIn i) n) [] (rw (length-at (reportsIn i) P n (settledTable i P), settled-length i P) l));
           }
 
       starts : Start (reportsIn i) P n (met n) → So (afterReport (reportsIn i) P n (met n))
       starts w =
           rw (w .after)
-          (⊎-elim (λ e. inr (n, here-now w e)) (λ d. rw (getD-set-other (met n) (freeSlot (met n)) k (newTrack (reportsIn i) n) [] d) before) (same-or k (freeSlot (met n))))
+          (⊎-elim (λ e. inr (n, here-now w e)) (λ d. rw (getD-set-other (met n) (freeSlot (met n)) k (newSlot (reportsIn i) n) [] d) before) (same-or k (freeSlot (met n))))
 
   upto : (n : ℕ) → n ≤ reportsOf i → So (met n)
   unfolding afterAll
@@ -192,7 +188,7 @@ module _ (i : Input) (l l′ : Lent) (counts : Counts) (s : ServedWith i l l′ 
   coasted-slot-after rank h e a =
       let m : getD (settledTable i P) (dueSlot i rank) [] ≡ bytesOf (coastedOf (dueTrack i rank) (i .sector)) =
       missed-due i P rank h e ∙ missed-kept (i .sector) (getD (i .table) (dueSlot i rank) []) _ (coasted-keeps (dueTrack i rank) (i .sector) a) in
-      kept (dueSlot i rank) (rw m (missed-held _ _)) ∙ m
+      kept (dueSlot i rank) (rw m (coasted-not-free _ _)) ∙ m
 
   -- Another is dropped: its slot is all zero, or holds a track that some report started there.
   pub dropped-slot-after : (rank : ℕ) → rank < tracksOf i → at P rank ≡ none → allowance (dueTrack i rank .updates) < dueTrack i rank .misses + 1 → LeftOrStarted i P (dueSlot i rank) freed (getD (l′ .table) (dueSlot i rank) [])
@@ -207,10 +203,10 @@ module _ (i : Input) (l l′ : Lent) (counts : Counts) (s : ServedWith i l l′ 
   -- So its bytes change only when a track starts there: free before and after, they are the same.
   pub free-slot-kept : (k : ℕ) → k < length (i .table) → at (getD (i .table) k []) markAt ≡ free → at (getD (l′ .table) k []) markAt ≡ free → getD (l′ .table) k [] ≡ getD (i .table) k []
   free-slot-kept k h m a =
-      ⊎-elim (λ e. e) (λ w. absurd (clash (eq-eqb _ free a) (rw (w .1 .holds) (new-held (reportsIn i) (w .0))))) (free-slot-after k h m)
+      ⊎-elim (λ e. e) (λ w. absurd (clash (eq-eqb _ free a) (rw (w .1 .holds) (new-not-free (reportsIn i) (w .0))))) (free-slot-after k h m)
 
   -- A report that is told started: the track in its slot is its own.
-  pub started-slot-after : (j : ℕ) → j < reportsOf i → fateAt i P j ≡ started → StartedThere i P j (toldSlotOf i P j) (getD (l′ .table) (toldSlotOf i P j) [])
+  pub started-slot-after : (j : ℕ) → j < reportsOf i → fateAt i P j ≡ started → StartedThere i P j (toldSlotAt i P j) (getD (l′ .table) (toldSlotAt i P j) [])
   started-slot-after j b e = ⊎-elim starts (λ w. absurd (w .fate (sym (fate-is i P j b) ∙ e))) (starts-or-not (reportsIn i) P j found)
     where
       found : List (List ℕ)
@@ -220,12 +216,12 @@ module _ (i : Input) (l l′ : Lent) (counts : Counts) (s : ServedWith i l l′ 
       was-free true q w = refl
       was-free false q w = absurd (clash (free-found found (w .room)) (rw (held-at (reportsIn i) P j (settledTable i P) (freeSlot found) q) q))
 
-      stays : Start (reportsIn i) P j found → getD (startedTable (reportsIn i) P (settledTable i P)) (freeSlot found) [] ≡ newTrack (reportsIn i) j
+      stays : Start (reportsIn i) P j found → getD (startedTable (reportsIn i) P (settledTable i P)) (freeSlot found) [] ≡ newSlot (reportsIn i) j
       stays w = start-stays (reportsIn i) P (settledTable i P) j (in-batch i j b) w
 
-      starts : Start (reportsIn i) P j found → StartedThere i P j (toldSlotOf i P j) (getD (l′ .table) (toldSlotOf i P j) [])
+      starts : Start (reportsIn i) P j found → StartedThere i P j (toldSlotAt i P j) (getD (l′ .table) (toldSlotAt i P j) [])
       starts w =
-          let k : toldSlotOf i P j ≡ freeSlot found = slot-is i P j b ∙ w .slot in
+          let k : toldSlotAt i P j ≡ freeSlot found = slot-is i P j b ∙ w .slot in
           record {
             here = b;
             lies = rw (k, ← settled-length i P, ← length-at (reportsIn i) P j (settledTable i P)) (w .room);

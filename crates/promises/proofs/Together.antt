@@ -145,18 +145,18 @@ module _ (i : Input) (rest : List ℕ) (r : Ready i) (p u v : List ℕ) (room : 
 
   -- so it is done, and what it wrote is a choice
   call-is-done : {p′ u′ v′ : List ℕ} {a : Paired} → pairing.PairsSheet (tracksOf i) (reportsOf i) (cellsOf i ++ rest) p u v p′ u′ v′ a → Together i p′ u′ v′ a
-  unfolding pairing.answerOf
+  unfolding pairing.pairedBy
   call-is-done {p′} {u′} {v′} R = record {
-    done = R .answered ∙ ap pairing.answerOf (own-sheet-is-not-refused i rest r p u v room);
+    done = R .answered ∙ ap pairing.pairedBy (own-sheet-is-not-refused i rest r p u v room);
     choice = written-is-a-choice p′ u′ v′ (R .served (own-sheet-is-not-refused i rest r p u v room));
   }
 
   -- and any choice is what it may write
   call-may-write : (c : Chosen) → Choice i c → pairing.PairsSheet (tracksOf i) (reportsOf i) (cellsOf i ++ rest) p u v (c .pairing ++ drop (tracksOf i) p) (c .prices ++ drop (tracksOf i) u) (c .discounts ++ drop (reportsOf i) v) paired-call.Done
-  unfolding pairing.answerOf
+  unfolding pairing.pairedBy
   call-may-write c h =
       let z = own-sheet-is-not-refused i rest r p u v room in
-      record { answered = sym (ap pairing.answerOf z); refused = λ d. absurd (d z); served = λ e. choice-may-be-written c h }
+      record { answered = sym (ap pairing.pairedBy z); refused = λ d. absurd (d z); served = λ e. choice-may-be-written c h }
 
 -- ---- the three calls
 

@@ -26,8 +26,8 @@ use Rattle.sector.specs.Serve.{Lent, sectorRefusal, Chosen, Choice, reportsIn, 
 abbrev pub fateAt : Input → List ℕ → ℕ → ℕ
 fateAt i P j = getD (fatesIn i P) j 0
 
-abbrev pub toldSlotOf : Input → List ℕ → ℕ → ℕ
-toldSlotOf i P j = getD (slotsOf (reportsIn i) P (settledTable i P)) j 0
+abbrev pub toldSlotAt : Input → List ℕ → ℕ → ℕ
+toldSlotAt i P j = getD (slotsOf (reportsIn i) P (settledTable i P)) j 0
 
 abbrev pub shownAt : Input → List ℕ → ℕ → ℕ
 shownAt i P j = getD (shownOf (reportsIn i) P (settledTable i P)) j 0
@@ -46,7 +46,7 @@ pub record PairedWithOld (i : Input) (P : List ℕ) (j : ℕ) : Type 0 where
 -- report j is told that it is paired, in the slot of the due track of a rank
 pub record ToldPaired (i : Input) (P : List ℕ) (j rank : ℕ) : Type 0 where
   pub fate : fateAt i P j ≡ paired
-  pub slot : toldSlotOf i P j ≡ dueSlot i rank
+  pub slot : toldSlotAt i P j ≡ dueSlot i rank
 
 -- the shown mark of report j is 1 exactly when it is so paired, else 0
 pub record ShownExactlyWhen (i : Input) (P : List ℕ) (j : ℕ) : Type 0 where
@@ -55,7 +55,7 @@ pub record ShownExactlyWhen (i : Input) (P : List ℕ) (j : ℕ) : Type 0 where
   pub otherwise : (PairedWithOld i P j → ⊥) → shownAt i P j ≡ 0
 
 -- the due track of a rank has a report, which is told so, and is shown where the track had two updates or more
-pub record TrackServed (i : Input) (P : List ℕ) (rank : ℕ) : Type 0 where
+pub record TrackContinued (i : Input) (P : List ℕ) (rank : ℕ) : Type 0 where
   pub report : ℕ
   pub here : report < reportsOf i
   pub has : at P rank ≡ report
@@ -68,7 +68,7 @@ heldCount table = count isHeld table
 
 -- the due track of a rank, as the call leaves it: some report is told paired in its slot, is shown where the track had two updates or more, and
 -- the slot holds the track, updated by that report
-pub record SeenServed (i : Input) (l′ : Lent) (rank : ℕ) : Type 0 where
+pub record SeenContinued (i : Input) (l′ : Lent) (rank : ℕ) : Type 0 where
   pub report : ℕ
   pub here : report < reportsOf i
   pub fate : getD (l′ .fates) report 0 ≡ paired
@@ -81,7 +81,7 @@ pub record StartedThere (i : Input) (P : List ℕ) (j k : ℕ) (slot : List ℕ)
   pub here : j < reportsOf i
   pub lies : k < length (i .table)
   pub fate : fateAt i P j ≡ started
-  pub told : toldSlotOf i P j ≡ k
+  pub told : toldSlotAt i P j ≡ k
   pub found-free : isFree (getD (settledTable i P) k []) ≡ true
   pub holds : slot ≡ bytesOf (startedOf (reportOf (getD (i .batch) j [])) (i .sector))
 
@@ -92,7 +92,7 @@ LeftOrStarted i P k left slot = (slot ≡ left) ⊎ ((j : ℕ) × StartedThere i
 -- the first entries of the answer's lists are what report j is told, and its discount
 pub record AnswersTold (i : Input) (c : Chosen) (l′ : Lent) (j : ℕ) : Type 0 where
   pub fate : getD (l′ .fates) j 0 ≡ fateAt i (c .pairing) j
-  pub slot : getD (l′ .slots) j 0 ≡ toldSlotOf i (c .pairing) j
+  pub slot : getD (l′ .slots) j 0 ≡ toldSlotAt i (c .pairing) j
   pub shown : getD (l′ .shown) j 0 ≡ shownAt i (c .pairing) j
   pub discount : getD (l′ .discounts) j 0 ≡ at (c .discounts) j
 

@@ -1,4 +1,4 @@
--- Slacks: taken in track by track, spent when all pairs rise, and tightened after a search.
+-- Tightenable: taken in track by track, spent when all pairs rise, and tightened after a search.
 use Prim.Native.Nat.{ℕ, _+_, _*_, _≤_, _<_}
 use mathlib.Core.Path.{_≡_, refl, ap, sym, subst, _∙_}
 use mathlib.Core.List.{List}
@@ -9,8 +9,8 @@ use Rattle.laws.proofs.Stores.{same-or}
 use Rattle.laws.specs.Lists.{at}
 use Rattle.matching.specs.Pairing.{none, leftOut}
 use Rattle.passes.specs.Cells.{far}
-use Rattle.lifting.specs.Slack.{Row, Bounded, Raised, Spent, Slacks, Tightened}
-use Rattle.paths.specs.State.{cell, Own, Good, Rooms, Inserted, Reached, Searchable}
+use Rattle.lifting.specs.Slack.{Row, Bounded, Raised, Spent, Tightenable, Tightened}
+use Rattle.paths.specs.State.{cell, Own, Good, SearchLists, Inserted, Reached, Searchable}
 use Rattle.paths.proofs.Swap.{reshaped, free-zero}
 use Rattle.paths.proofs.Rows.{row, row-length, row-at, row-end}
 use Rattle.queue.specs.State.{Slack, Lifting}
@@ -123,7 +123,7 @@ module _ (cells : List ℕ) (m n : ℕ) (pairing owner prices discounts slack : 
 module _ (cells : List ℕ) (m n track : ℕ) (pairing owner prices discounts slack : List ℕ) (L : Lifting cells m n pairing owner prices discounts slack)
     (pairing′ owner′ prices′ discounts′ labels : List ℕ) (reach : ℕ) (I : Inserted cells m n track pairing prices pairing′ owner′ prices′ discounts′)
     (R : Reached cells m n pairing owner prices labels reach pairing′ owner′ prices′) where
-  pub search-slacks : Slacks labels reach slack
+  pub search-slacks : Tightenable labels reach slack
   search-slacks = record {
     same = R .labels-long ∙ sym (L .slacks .slack-long);
     searched = R .searched;
@@ -142,7 +142,7 @@ module _ (cells : List ℕ) (m n track : ℕ) (pairing owner prices discounts sl
   }
 
 -- a track without a report, with the lists of a search
-pub to-search : (cells : List ℕ) (m track : ℕ) (pairing owner prices discounts labels via closings : List ℕ) → Good cells m (length prices) pairing owner prices discounts → Rooms m labels via closings
+pub to-search : (cells : List ℕ) (m track : ℕ) (pairing owner prices discounts labels via closings : List ℕ) → Good cells m (length prices) pairing owner prices discounts → SearchLists m labels via closings
     → track < length prices → at pairing track ≡ none → Searchable cells m track pairing owner prices discounts labels via closings
 to-search cells m track pairing owner prices discounts labels via closings G L h z =
     record { good = G; track-in = h; unpaired = z; rooms = L }

@@ -1,4 +1,4 @@
--- Slacks that hold for the pairs of the first t tracks; and the lists of an insertion.
+-- Tightenable that hold for the pairs of the first t tracks.
 use Prim.Native.Nat.{ℕ, _+_, _≤_, _<_}
 use mathlib.Core.Path.{_≡_}
 use mathlib.Core.List.{List}

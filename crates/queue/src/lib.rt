@@ -19,7 +19,7 @@ ghost use lib.ListN.{length};
 ghost use Rattle.laws.specs.Lists.{at};
 ghost use Rattle.matching.specs.Pairing.{none};
 ghost use Rattle.lifting.specs.Slack.{Small};
-ghost use Rattle.paths.specs.State.{Good, Rooms};
+ghost use Rattle.paths.specs.State.{Good, SearchLists};
 ghost use Rattle.queue.specs.State.{Slack, Lifting};
 
 // A search that closes as many reports is long.
@@ -113,7 +113,7 @@ fn lifted_insert(
     closings: &mut [u32],
     slack: &mut [u32],
 )
-    requires { ⌜ Lifting (now sheet) reports (length (now prices)) (now pairing) (now owner) (now prices) (now discounts) (now slack) × (Rooms reports (now labels) (now via) (now closings) × ((track < length (now prices)) × (at (now pairing) track ≡ none))) ⌝ }
+    requires { ⌜ Lifting (now sheet) reports (length (now prices)) (now pairing) (now owner) (now prices) (now discounts) (now slack) × (SearchLists reports (now labels) (now via) (now closings) × ((track < length (now prices)) × (at (now pairing) track ≡ none))) ⌝ }
     ensures { λ _. ⌜ Lifting (now (sheet .entry)) reports (length (now (prices .entry))) (now (pairing .exit)) (now (owner .exit)) (now (prices .exit)) (now (discounts .exit)) (now (slack .exit)) ⌝ }
 {
     lift(sheet, reports, pairing, owner, prices, discounts, slack);
@@ -146,7 +146,7 @@ fn lifted_inserts(
     closings: &mut [u32],
     slack: &mut [u32],
 )
-    requires { ⌜ Lifting (now sheet) reports (length (now prices)) (now pairing) (now owner) (now prices) (now discounts) (now slack) × Rooms reports (now labels) (now via) (now closings) ⌝ }
+    requires { ⌜ Lifting (now sheet) reports (length (now prices)) (now pairing) (now owner) (now prices) (now discounts) (now slack) × SearchLists reports (now labels) (now via) (now closings) ⌝ }
     ensures { λ _. ⌜ Good (now (sheet .entry)) reports (length (now (prices .entry))) (now (pairing .exit)) (now (owner .exit)) (now (prices .exit)) (now (discounts .exit)) ⌝ }
 {
     let mut round: usize = 0;
@@ -196,7 +196,7 @@ fn first_inserts(
     via: &mut [u32],
     closings: &mut [u32],
 )
-    requires { ⌜ Good (now sheet) reports (length (now prices)) (now pairing) (now owner) (now prices) (now discounts) × Rooms reports (now labels) (now via) (now closings) ⌝ }
+    requires { ⌜ Good (now sheet) reports (length (now prices)) (now pairing) (now owner) (now prices) (now discounts) × SearchLists reports (now labels) (now via) (now closings) ⌝ }
     ensures { λ _. ⌜ Good (now (sheet .entry)) reports (length (now (prices .entry))) (now (pairing .exit)) (now (owner .exit)) (now (prices .exit)) (now (discounts .exit)) ⌝ }
 {
     let mut round: usize = 0;
@@ -235,7 +235,7 @@ fn later_inserts(
     closings: &mut [u32],
     slack: &mut [u32],
 )
-    requires { ⌜ Good (now sheet) reports (length (now prices)) (now pairing) (now owner) (now prices) (now discounts) × (Rooms reports (now labels) (now via) (now closings) × (length (now slack) ≡ reports)) ⌝ }
+    requires { ⌜ Good (now sheet) reports (length (now prices)) (now pairing) (now owner) (now prices) (now discounts) × (SearchLists reports (now labels) (now via) (now closings) × (length (now slack) ≡ reports)) ⌝ }
     ensures { λ _. ⌜ Good (now (sheet .entry)) reports (length (now (prices .entry))) (now (pairing .exit)) (now (owner .exit)) (now (prices .exit)) (now (discounts .exit)) ⌝ }
 {
     if next_track(pairing, prices) == 0 {
@@ -270,7 +270,7 @@ pub fn insert_all(
     closings: &mut [u32],
     slack: &mut [u32],
 )
-    requires { ⌜ Good (now sheet) reports (length (now prices)) (now pairing) (now owner) (now prices) (now discounts) × (Rooms reports (now labels) (now via) (now closings) × (length (now slack) ≡ reports)) ⌝ }
+    requires { ⌜ Good (now sheet) reports (length (now prices)) (now pairing) (now owner) (now prices) (now discounts) × (SearchLists reports (now labels) (now via) (now closings) × (length (now slack) ≡ reports)) ⌝ }
     ensures { λ _. ⌜ Good (now (sheet .entry)) reports (length (now (prices .entry))) (now (pairing .exit)) (now (owner .exit)) (now (prices .exit)) (now (discounts .exit)) ⌝ }
 {
     first_inserts(

@@ -157,7 +157,7 @@ fn raised(low: u64, width: u64, up: bool) -> u64
 }
 
 // Halves the interval of `width` numbers from `low` on until one is left. The width depends on no test, so that the compiler
-// can write out the nine turns. The sides of 01's rule, but for (2s-1)^2, are computed once.
+// can write out the nine rounds. The sides of 01's rule, but for (2s-1)^2, are computed once.
 pub fn position_number(dr: u64, da: u64, range_sigma: u8, azimuth_sigma: u8) -> u32
     requires { ⌜ (dr ≤ rangeMost) × (da ≤ halfTurn) ⌝ }
     ensures { λ r. ⌜ r ≡ positionOf dr da «range_sigma» «azimuth_sigma» ⌝ }

@@ -11,7 +11,7 @@ use Rattle.scoresheet.specs.Cells.{tracksOf, reportsOf, sectorSheet}
 use Rattle.scoresheet.proofs.Due.{due-lies}
 use Rattle.scoresheet.proofs.SheetLaws.{cells-length, sheet-in-range}
 use Rattle.walk.specs.Table.{settledTable, slotPrices, coastedCount, droppedCount}
-use Rattle.walk.specs.Ready.{Settles}
+use Rattle.walk.specs.Ready.{TableReady}
 use Rattle.fates.specs.Fates.{handed, Tellable, startedTable, fatesOf, slotsOf, shownOf}
 use Rattle.fates.proofs.Answers.{fates-taken}
 use Rattle.sector.specs.declared.Counts.{Counts}
@@ -35,7 +35,7 @@ module _ (i : Input) (due sheet P u : List ℕ) (r : Ready i) (p : PairedUp i du
     valid = rw sheet-same (p .valid);
   }
 
-  pub settles : (prices : List ℕ) → length (i .table) ≤ length prices → Settles i due P u prices
+  pub settles : (prices : List ℕ) → length (i .table) ≤ length prices → TableReady i due P u prices
   unfolding tracksOf sectorSheet reportsOf
   settles prices h = record {
     names = record { number-each = le-of-eq (sym (p .number-each)); there = p .valid .there };

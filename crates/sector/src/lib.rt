@@ -28,6 +28,7 @@ pub struct Counts {
     pub score_sum: u32,
 }
 
+// The answer of the sector call: the number of its refusal, or its counts where it is served.
 pub enum Served {
     Refused(u8),
     Done(Counts),

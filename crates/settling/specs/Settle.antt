@@ -128,7 +128,7 @@ startedOf p s = record {
 
 -- ---- a held track that is not served
 
--- it loses 1 from its wait
+-- it is aged, which is said of the wait and not of 01's age: it loses 1
 unfoldable pub agedOf : Track → Track
 agedOf t = record {
   range = t .range;

@@ -17,7 +17,7 @@ use Rattle.laws.specs.Lists.{at}
 use Rattle.records.specs.Bytes.{slotBytes, waitAt, markAt, trackOf, slotDue}
 use Rattle.records.proofs.RoundTrips.{Bytes}
 use Rattle.sector.specs.Serve.{Lent}
-use Rattle.turns.specs.Calls.{Accepted, Calls, no-more, one-more, slotAt, WaitsOn, ServedIn, TurnSet, StillThere, DueAt}
+use Rattle.turns.specs.Calls.{Accepted, Calls, no-more, one-more, slotAt, WaitsOn, ServedIn, WaitSet, StillThere, DueAt}
 use Rattle.turns.proofs.Table.{was-ready, accepted-leaves-good}
 use Rattle.turns.proofs.Slot.{mark-kept, wait-stored, waits-one-less, served-waits}
 
@@ -98,7 +98,7 @@ served-due-again {l} {l′} a k w b = rw (← j-is) (record {
   until = λ c h. due-again c k (rw (accepted-leaves-good a .slots-same) (w .lies)) b (w .is-held) (omega arith);
 })
   where
-    t : TurnSet (l .sector) (slotAt l′ k)
+    t : WaitSet (l .sector) (slotAt l′ k)
     t = served-waits a k w
 
     meets : (l .sector + (at (slotAt l′ k) waitAt + 1)) % sectors ≡ sectorOf (trackOf (slotAt l′ k) .azimuth)

@@ -20,23 +20,24 @@ use Rattle.records.proofs.Checked.{slot-well-formed, sound}
 use Rattle.records.proofs.RoundTrips.{Bytes}
 use Rattle.settling.specs.declared.Missed.{Missed}
 use Rattle.settling.specs.declared.Missed.the-variants.{Coasts, Dropped}
-use Rattle.settling.specs.Settle.{withoutPair, agedOf}
+use Rattle.settling.specs.Settle.{withoutPair}
 use Rattle.settling.proofs.HandedOn.{ServedTrack, updated-served, coasted-served, started-served}
 use Rattle.matching.specs.Pairing.{none}
 use Rattle.intake.specs.Refusals.{Input, Ready}
 use Rattle.walk.specs.Table.{pairedSlot, missedSlot, agedSlot, settledSlot, settledTable}
-use Rattle.walk.specs.Ready.{SlotSettles}
+use Rattle.walk.specs.Ready.{SlotReady}
 use Rattle.scoresheet.proofs.Due.{due-track}
 use Rattle.walk.proofs.Slots.{waits-on, aged-byte, missed-kept, missed-dropped}
 use Rattle.walk.proofs.Settled.{rankOf, track-mark, settled-at, settles-at}
 use Rattle.fates.specs.Fates.{Handed, freeSlot, afterReport, reportNumbers, startedTable}
 use Rattle.laws.proofs.Rounds.{all-keep}
-use Rattle.records.proofs.Packed.{mark-packed, well-packed}
+use Rattle.records.proofs.Packed.{well-packed}
 use Rattle.fates.proofs.Starts.{GoodReports, report-keeps}
 use Rattle.sector.specs.Serve.{Lent, inputOf, reportsIn}
 use Rattle.promises.proofs.Slots.{left-slot, kept}
-use Rattle.turns.specs.Calls.{Accepted, slotAt, WaitsOn, ServedIn, TurnSet}
+use Rattle.turns.specs.Calls.{Accepted, slotAt, WaitsOn, ServedIn, WaitSet}
 use Rattle.turns.proofs.Table.{outcome, was-ready, names, good-reports}
+use Rattle.promises.proofs.Held.{aged-mark-same}
 
 -- ---- a track that waits
 
@@ -57,8 +58,7 @@ not-due-ages s batch P slot rank d = rw d
 
 -- and then holds the same track
 pub aged-held : (slot : List ℕ) → at slot markAt ≡ held → at (agedSlot slot) markAt ≡ held
-unfolding agedSlot agedOf trackOf
-aged-held slot m = rw (eq-eqb (at slot markAt) held m, mark-packed (agedOf (trackOf slot))) m
+aged-held slot m = eqb-true (at (agedSlot slot) markAt) held (aged-mark-same slot ∙ eq-eqb (at slot markAt) held m)
 
 -- a slot that holds a track at entry and is not due is aged
 pub ages : {l l′ : Lent} → Accepted l l′ → (k : ℕ) → k < length (l .table) → at (slotAt l k) markAt ≡ held → slotDue (slotAt l k) ≡ false → slotAt l′ k ≡ agedSlot (slotAt l k)
@@ -104,7 +104,7 @@ fresh-missed s slot h w = go (withoutPair (trackOf slot) s) refl
     go Dropped e = rw (missed-dropped s slot e) (fresh-free s freed freed-free)
 
 -- a slot that is not malformed and does not hold a track is free, and ageing keeps it so
-fresh-aged : {s : ℕ} {batch : List (List ℕ)} {P slot : List ℕ} {rank : ℕ} → SlotSettles s batch P slot rank → (at slot markAt ≡ held → ⊥) → JustServed s (agedSlot slot)
+fresh-aged : {s : ℕ} {batch : List (List ℕ)} {P slot : List ℕ} {rank : ℕ} → SlotReady s batch P slot rank → (at slot markAt ≡ held → ⊥) → JustServed s (agedSlot slot)
 unfolding agedSlot
 fresh-aged {s} {batch} {P} {slot} {rank} w n = rw (ne-eqb (at slot markAt) held n) (go (eqb (at slot markAt) free) refl)
   where
@@ -113,7 +113,7 @@ fresh-aged {s} {batch} {P} {slot} {rank} w n = rw (ne-eqb (at slot markAt) held 
     go false e = absurd (n (track-mark slot (slot-well-formed slot s (w .slot-good) (eqb-false (at slot markAt) free e) .is-held)))
 
 -- so every slot that did not hold a waiting track, as pairing leaves it
-fresh-settled : {s : ℕ} {batch : List (List ℕ)} {P slot : List ℕ} {rank : ℕ} → SlotSettles s batch P slot rank → (at slot markAt ≡ held → slotDue slot ≡ true) → JustServed s (settledSlot s batch P slot rank)
+fresh-settled : {s : ℕ} {batch : List (List ℕ)} {P slot : List ℕ} {rank : ℕ} → SlotReady s batch P slot rank → (at slot markAt ≡ held → slotDue slot ≡ true) → JustServed s (settledSlot s batch P slot rank)
 unfolding settledSlot pairedSlot
 fresh-settled {s} {batch} {P} {slot} {rank} w n = go (slotDue slot) refl (eqb (at P rank) none) refl
   where
@@ -145,7 +145,7 @@ fresh-started h P table k l w g =
 
 -- A track that was updated, coasted and kept, or started in the call is stored with a wait of 15 to 46; counted from the next call's
 -- sector it leads to the predicted sector.
-pub served-waits : {l l′ : Lent} (a : Accepted l l′) (k : ℕ) → ServedIn l l′ k → TurnSet (l .sector) (slotAt l′ k)
+pub served-waits : {l l′ : Lent} (a : Accepted l l′) (k : ℕ) → ServedIn l l′ k → WaitSet (l .sector) (slotAt l′ k)
 unfolding trackOf
 served-waits {l} {l′} a k w = record {
   not-sooner = omega (arith, t .again, ahead-soonest (l .sector) (sectorOf (trackOf (slotAt l′ k) .azimuth)));

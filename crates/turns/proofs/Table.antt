@@ -14,7 +14,7 @@ use Rattle.numbers.specs.Sectors.{sectorOf, nextSector}
 use Rattle.numbers.proofs.SectorLaws.{next-lies}
 use Rattle.records.specs.declared.Site.{Site}
 use Rattle.records.specs.Fields.{trackFields}
-use Rattle.records.specs.Bytes.{badSlotField}
+use Rattle.records.specs.Bytes.{badSlotField, SlotsGood}
 use Rattle.records.proofs.Checked.{sound}
 use Rattle.matching.proofs.Theorems.{zero-certificate}
 use Rattle.intake.specs.Refusals.{Input, mostSlots, slotBad, noneOf, demands, noRoom, refusalOf, Ready}
@@ -23,7 +23,7 @@ use Rattle.scoresheet.specs.Cells.{cellsOf, tracksOf, reportsOf}
 use Rattle.walk.specs.Table.{settledTable}
 use Rattle.walk.specs.Ready.{Names}
 use Rattle.walk.proofs.Settled.{settled-length, settled-good}
-use Rattle.fates.proofs.Starts.{AllGood, GoodReports, started-length, started-good}
+use Rattle.fates.proofs.Starts.{GoodReports, started-length, started-good}
 use Rattle.sector.specs.declared.Served.{Served}
 use Rattle.sector.specs.declared.Served.the-variants.{Refused}
 use Rattle.sector.specs.Serve.{ServedWith, ServesSector, Lent, inputOf, roomFor, sectorRefusal, Chosen, Choice, reportsIn, afterOf}
@@ -47,10 +47,8 @@ good-reports {i} r = record {
 }
 
 -- the table as pairing leaves it
-settled-fit : {i : Input} {c : Chosen} → Ready i → Choice i c → AllGood (nextSector (i .sector)) (settledTable i (c .pairing))
-settled-fit {i} {c} r q = record {
-  good = λ k h. settled-good i (c .pairing) r (names q) k (rw (settled-length i (c .pairing)) at h);
-}
+settled-fit : {i : Input} {c : Chosen} → Ready i → Choice i c → SlotsGood (settledTable i (c .pairing)) (nextSector (i .sector))
+settled-fit {i} {c} r q = λ k h. settled-good i (c .pairing) r (names q) k (rw (settled-length i (c .pairing)) at h)
 
 -- A served call leaves as many slots as it was lent, a sector below 32, and no slot with a bad field for that sector.
 pub handed-on-good : (i : Input) (l : Lent) (c : Chosen) → Ready i → Choice i c → LeftGood (length (i .table)) (afterOf i l c)
@@ -58,7 +56,7 @@ unfolding afterOf
 handed-on-good i l c r q = record {
   slots-same = started-length (reportsIn i) (c .pairing) (settledTable i (c .pairing)) ∙ settled-length i (c .pairing);
   sector-in = next-lies (i .sector);
-  slots-good = started-good (reportsIn i) (c .pairing) (settledTable i (c .pairing)) (r .sector-in) (good-reports r) (settled-fit r q) .good;
+  slots-good = started-good (reportsIn i) (c .pairing) (settledTable i (c .pairing)) (r .sector-in) (good-reports r) (settled-fit r q);
 }
 
 -- ---- an accepted call

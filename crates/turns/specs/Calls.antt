@@ -10,8 +10,8 @@ use Rattle.numbers.specs.Scales.{sectors, soonest}
 use Rattle.numbers.specs.Sectors.{sectorOf, nextSector}
 use Rattle.records.specs.declared.Site.{Site}
 use Rattle.records.specs.declared.Track.{Track}
-use Rattle.records.specs.Fields.{held, waitMost, trackFields}
-use Rattle.records.specs.Bytes.{waitAt, markAt, trackOf, bytesOf, badSlotField, slotDue, isHeld}
+use Rattle.records.specs.Fields.{held, waitMost}
+use Rattle.records.specs.Bytes.{waitAt, markAt, trackOf, bytesOf, slotDue, isHeld, SlotsGood}
 use Rattle.fates.specs.Fates.{paired, started}
 use Rattle.sector.specs.declared.Served.{Served}
 use Rattle.sector.specs.Serve.{Lent, inputOf, sectorRefusal, ServesSector}
@@ -38,7 +38,7 @@ pub data Calls : ℕ → Lent → Lent → Type 0 where
 pub record LeftGood (slots : ℕ) (l′ : Lent) : Type 0 where
   pub slots-same : length (l′ .table) ≡ slots
   pub sector-in : l′ .sector < sectors
-  pub slots-good : (k : ℕ) → k < length (l′ .table) → badSlotField (getD (l′ .table) k []) (l′ .sector) ≡ trackFields
+  pub slots-good : SlotsGood (l′ .table) (l′ .sector)
 
 -- a number that the table or the sector can be refused by
 pub data OfTable : ℕ → Type 0 where
@@ -75,7 +75,7 @@ pub data HasTrack : ℕ → Type 0 where
   by-start : HasTrack started
 
 -- the stored wait is one of 15..46 and leads from the sector after s to the predicted sector
-pub record TurnSet (s : ℕ) (slot : List ℕ) : Type 0 where
+pub record WaitSet (s : ℕ) (slot : List ℕ) : Type 0 where
   pub not-sooner : soonest ≤ at slot waitAt + 1
   pub not-later : at slot waitAt ≤ waitMost
   pub turn-comes : (nextSector s + at slot waitAt) % sectors ≡ sectorOf (trackOf slot .azimuth)

@@ -1,5 +1,5 @@
 -- Laws of the settled table: its slots one by one, none of them malformed for the next call; and the counts of missed tracks.
-use Prim.Native.Nat.{ℕ, zero, suc, _+_, _<_}
+use Prim.Native.Nat.{ℕ, suc, _+_, _<_}
 use mathlib.Core.Path.{_≡_, refl, sym, ap, _∙_}
 use mathlib.Core.Bool.{Bool, true, false, cond}
 use mathlib.Core.List.{List, [], _∷_}
@@ -11,7 +11,7 @@ use borrow.Author.Tests.{eqb-true, eqb-false}
 use Rattle.laws.specs.Lists.{at, afterAll, indicesFrom}
 use Rattle.laws.specs.Sums.{Sum}
 use Rattle.laws.proofs.Fold.{length-outs}
-use Rattle.laws.proofs.Sums.{sum-add, sum-same}
+use Rattle.laws.proofs.Sums.{sum-add, sum-same, count-both}
 use Rattle.numbers.specs.Scales.{sectors}
 use Rattle.numbers.specs.Sectors.{nextSector}
 use Rattle.records.specs.Fields.{free, held, trackFields, reportFields, badReportField, WellFormed}
@@ -25,7 +25,7 @@ use Rattle.settling.proofs.HandedOn.{updated-served, coasted-served, aged-well-
 use Rattle.matching.specs.Pairing.{none}
 use Rattle.intake.specs.Refusals.{Input, dueSlots, Ready}
 use Rattle.walk.specs.Table.{pairedSlot, missedSlot, agedSlot, dueRank, settledSlot, slotPrice, settledTable, slotPrices, coastedOne, droppedOne, missedAt, missedSum, coastedCount, droppedCount}
-use Rattle.walk.specs.Ready.{Names, SlotSettles}
+use Rattle.walk.specs.Ready.{Names, SlotReady}
 use Rattle.laws.proofs.Ranks.{outs-at, ranked}
 use Rattle.scoresheet.proofs.Due.{due-track}
 use Rattle.walk.proofs.Slots.{track-waits-on, missed-kept, missed-dropped}
@@ -104,7 +104,7 @@ aged-good s slot g d = go (eqb (at slot markAt) held) refl (eqb (at slot markAt)
         absurd (eqb-false (at slot markAt) held m (track-mark slot (w .is-held)))
 
 -- a slot that its step may count on is not malformed for the next call
-pub slot-good : {s : ℕ} {batch : List (List ℕ)} {P slot : List ℕ} {rank : ℕ} → SlotSettles s batch P slot rank → badSlotField (settledSlot s batch P slot rank) (nextSector s) ≡ trackFields
+pub slot-good : {s : ℕ} {batch : List (List ℕ)} {P slot : List ℕ} {rank : ℕ} → SlotReady s batch P slot rank → badSlotField (settledSlot s batch P slot rank) (nextSector s) ≡ trackFields
 unfolding settledSlot
 slot-good {s} {batch} {P} {slot} {rank} w = go (slotDue slot) refl (eqb (at P rank) none) refl
   where
@@ -114,7 +114,7 @@ slot-good {s} {batch} {P} {slot} {rank} w = go (slotDue slot) refl (eqb (at P ra
     go false d n e = aged-good s slot (w .slot-good) d
 
 -- slot k at its rank
-pub settles-at : (i : Input) (P : List ℕ) → Ready i → Names i P → (k : ℕ) → k < length (i .table) → SlotSettles (i .sector) (i .batch) P (getD (i .table) k []) (rankOf (i .table) k)
+pub settles-at : (i : Input) (P : List ℕ) → Ready i → Names i P → (k : ℕ) → k < length (i .table) → SlotReady (i .sector) (i .batch) P (getD (i .table) k []) (rankOf (i .table) k)
 settles-at i P r q k h =
     let lies : slotDue (getD (i .table) k []) ≡ true → rankOf (i .table) k < length (dueSlots (i .table)) = λ d. due-at-rank i k h d .0 in
     record {
@@ -130,11 +130,6 @@ pub settled-good : (i : Input) (P : List ℕ) → Ready i → Names i P → (k :
 settled-good i P r q k h = rw (settled-at i P k h) (slot-good (settles-at i P r q k h))
 
 -- ---- the counts
-
-sum-ones : (n : ℕ) → Sum n (λ rank. 1) ≡ n
-unfolding Sum
-sum-ones zero = refl
-sum-ones (suc n) = omega (arith, sum-ones n)
 
 -- a due track without a pair coasts or is dropped
 kept-or-dropped : (u : Missed) → coastedOne u + droppedOne u ≡ 1
@@ -153,8 +148,4 @@ missed-counts i n P = sym (sum-add n _ _) ∙ sum-same n _ _ (λ rank l. go (eqb
 
 -- and with the paired ones they are all the due tracks
 pub all-counted : (i : Input) (n : ℕ) (P : List ℕ) → Sum n (λ rank. cond (eqb (at P rank) none) 0 1) + (coastedCount i n P + droppedCount i n P) ≡ n
-all-counted i n P = rw (missed-counts i n P) (sym (sum-add n _ _) ∙ sum-same n _ (λ rank. 1) (λ rank l. go (eqb (at P rank) none)) ∙ sum-ones n)
-  where
-    go : (b : Bool) → cond b 0 1 + cond b 1 0 ≡ 1
-    go true = refl
-    go false = refl
+all-counted i n P = rw (missed-counts i n P) (count-both n (λ rank. eqb (at P rank) none))

@@ -22,7 +22,7 @@ use Rattle.intake.specs.Refusals.{Input, dueSlots, mostSlots, mostDue, Ready}
 use Rattle.scoresheet.specs.Cells.{dueSlot}
 use Rattle.scoresheet.proofs.Due.{due-lies, due-is-due, due-well-formed}
 use Rattle.walk.specs.Table.{restedSlot, settledSlot, slotPrice, noPrice, settledTable, slotPrices, coastedOne, droppedOne, missedAt, missedSum}
-use Rattle.walk.specs.Ready.{Settles, SlotSettles, DueSettles, DuePriced}
+use Rattle.walk.specs.Ready.{TableReady, SlotReady, DueReady, DuePriced}
 use Rattle.walk.proofs.Settled.{rankOf, due-at-rank, settled-length, settled-at, prices-length, price-at}
 
 -- ---- the due slots settled one by one, the others aged
@@ -39,7 +39,7 @@ rested-at : (table : List (List ℕ)) (k : ℕ) → k < length table → getD (m
 rested-at table k h = map-at restedSlot table k [] [] h
 
 -- what the loop over the due slots counts on
-pub due-settles : {i : Input} {due P trackPrices prices : List ℕ} {table : List (List ℕ)} → Ready i → Settles i due P trackPrices prices → table ≡ map restedSlot (i .table) → DueSettles (i .sector) (i .batch) P due table
+pub due-settles : {i : Input} {due P trackPrices prices : List ℕ} {table : List (List ℕ)} → Ready i → TableReady i due P trackPrices prices → table ≡ map restedSlot (i .table) → DueReady (i .sector) (i .batch) P due table
 due-settles {i} {due} {P} {trackPrices} {prices} {table} r q e = rw (e, q .due-is) (record {
   distinct = rw (length-map (i .table) restedSlot) (due-distinct i);
   settles = λ rank h.
@@ -60,9 +60,9 @@ pub record NextSettled (sector : ℕ) (batch : List (List ℕ)) (P due : List �
   pub within : getD due rank 0 < length now
   pub early : getD due rank 0 < mostSlots
   pub same : getD now (getD due rank 0) [] ≡ getD was (getD due rank 0) []
-  pub settles : SlotSettles sector batch P (getD now (getD due rank 0) []) rank
+  pub settles : SlotReady sector batch P (getD now (getD due rank 0) []) rank
 
-pub next-settled : {sector : ℕ} {batch : List (List ℕ)} {P due : List ℕ} {was now : List (List ℕ)} {v : ℕ → List ℕ} {rank : ℕ} → DueSettles sector batch P due was → Placed [] due v was now rank → rank < length due → NextSettled sector batch P due was now rank
+pub next-settled : {sector : ℕ} {batch : List (List ℕ)} {P due : List ℕ} {was now : List (List ℕ)} {v : ℕ → List ℕ} {rank : ℕ} → DueReady sector batch P due was → Placed [] due v was now rank → rank < length due → NextSettled sector batch P due was now rank
 next-settled {sector} {batch} {P} {due} {was} {now} {v} {rank} q w h =
     let e : getD now (getD due rank 0) [] ≡ getD was (getD due rank 0) [] = not-placed [] w h (q .distinct) in
     record {
@@ -72,7 +72,7 @@ next-settled {sector} {batch} {P} {due} {was} {now} {v} {rank} q w h =
       settles = rw e (q .settles rank h);
     }
 
-pub due-priced : {i : Input} {due P trackPrices prices : List ℕ} → Ready i → Settles i due P trackPrices prices → DuePriced due trackPrices (take (length (i .table)) prices)
+pub due-priced : {i : Input} {due P trackPrices prices : List ℕ} → Ready i → TableReady i due P trackPrices prices → DuePriced due trackPrices (take (length (i .table)) prices)
 due-priced {i} {due} {P} {trackPrices} {prices} r q =
     let l : length (take (length (i .table)) prices) ≡ length (i .table) = length-take-le _ prices (q .room) in
     rw (q .due-is) (record { distinct = rw l (due-distinct i); priced = q .priced; few = rw l (r .few-slots) })

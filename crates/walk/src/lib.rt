@@ -15,7 +15,7 @@ ghost use Rattle.intake.specs.Refusals.{input, dueSlots, Ready};
 ghost use Rattle.laws.specs.Places.{Placed};
 ghost use Rattle.walk.specs.Table.{agedSlot, missedSlot, pairedSlot, restedSlot, settledSlot, noPrice, settledTable, slotPrices};
 ghost use Rattle.walk.specs.Table.{coastedOne, droppedOne, coastedCount, droppedCount};
-ghost use Rattle.walk.specs.Ready.{Settles, SlotSettles, DueSettles, DuePriced};
+ghost use Rattle.walk.specs.Ready.{TableReady, SlotReady, DueReady, DuePriced};
 use records::Site;
 use settling::Missed;
 
@@ -75,7 +75,7 @@ fn settled_slot(
     pairing: &[u32],
     sector: u8,
 ) -> [u8; records::SLOT_BYTES]
-    requires { ⌜ SlotSettles sector (now batch) (now pairing) slot rank ⌝ }
+    requires { ⌜ SlotReady sector (now batch) (now pairing) slot rank ⌝ }
     ensures { λ r. ⌜ r ≡ settledSlot sector (now (batch .entry)) (now (pairing .entry)) slot rank ⌝ }
 {
     if !records::slot_due(slot) {
@@ -120,7 +120,7 @@ fn settle_due(
     due: &[usize],
     pairing: &[u32],
 )
-    requires { ⌜ DueSettles sector (now batch) (now pairing) (now due) (now table) ⌝ }
+    requires { ⌜ DueReady sector (now batch) (now pairing) (now due) (now table) ⌝ }
     ensures { λ _. ⌜ Placed [] (now (due .entry)) (λ rank. settledSlot sector (now (batch .entry)) (now (pairing .entry)) (getD (now (table .entry)) (getD (now (due .entry)) rank 0) []) rank) (now (table .entry)) (now (table .exit)) (length (now (due .entry))) ⌝ }
 {
     let mut rank: usize = 0;
@@ -177,7 +177,7 @@ pub fn settle_table(
     prices: &mut [u32],
 )
     requires { ⌜ Ready (input (now table) sector site (now batch)) ⌝ }
-    requires { ⌜ Settles (input (now table) sector site (now batch)) (now due) (now pairing) (now «track_prices») (now prices) ⌝ }
+    requires { ⌜ TableReady (input (now table) sector site (now batch)) (now due) (now pairing) (now «track_prices») (now prices) ⌝ }
     ensures { λ _. ⌜ now (table .exit) ≡ settledTable (input (now (table .entry)) sector site (now (batch .entry))) (now (pairing .entry)) ⌝ }
     ensures { λ _. ⌜ now (prices .exit) ≡ slotPrices (input (now (table .entry)) sector site (now (batch .entry))) (now («track_prices» .entry)) ++ drop (length (now (table .entry))) (now (prices .entry)) ⌝ }
 {

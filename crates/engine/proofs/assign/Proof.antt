@@ -1,5 +1,5 @@
 use Rattle.queue.proofs.Rise.{good-len, good-at}
-use Rattle.paths.specs.State.{Good, Done}
+use Rattle.paths.specs.State.{Good, PairedOrOut}
 use borrow.Author.Count.{below-none, below-more}
 use lib.ListN.{length}
 use mathlib.Core.Path.{_≡_}
@@ -10,7 +10,7 @@ use Rattle.engine.proofs.assign.Statement.{statement}
 use Rattle.engine.proofs.assign.Tie as tie
 
 abbrev Inv-loop : tie.InvT-loop
-Inv-loop sheet reports pairing₀ owner₀ prices₀ discounts₀ labels₀ via₀ closings₀ slack track₀ pairing owner prices discounts labels via closings track = Good sheet reports (length prices₀) pairing owner prices discounts × ((track ≤ length prices₀) × (((i : ℕ) → i < track → Done reports pairing prices i) × ((length labels ≡ reports) × ((length via ≡ reports) × (length closings ≡ reports)))))
+Inv-loop sheet reports pairing₀ owner₀ prices₀ discounts₀ labels₀ via₀ closings₀ slack track₀ pairing owner prices discounts labels via closings track = Good sheet reports (length prices₀) pairing owner prices discounts × ((track ≤ length prices₀) × (((i : ℕ) → i < track → PairedOrOut reports pairing prices i) × ((length labels ≡ reports) × ((length via ≡ reports) × (length closings ≡ reports)))))
 
 abbrev μ-loop : tie.MeasureT-loop
 μ-loop sheet reports pairing₀ owner₀ prices₀ discounts₀ labels₀ via₀ closings₀ slack track₀ pairing owner prices discounts labels via closings track = length prices₀ - track

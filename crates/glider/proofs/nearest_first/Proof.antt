@@ -8,10 +8,11 @@ use native.Mathlib.Omega.{arith}
 use mathlib.Core.List.{List, append-nil}
 use lib.Seq.{drop-length}
 use Rattle.laws.proofs.Fold.{Answered, answered-none}
-use Rattle.laws.proofs.Rounds.{numbers, told-more, told-end}
+use Rattle.laws.proofs.Rounds.{told-more, told-end}
 use Rattle.glider.proofs.Filter.{part-is-row, row-room}
 use Rattle.glider.proofs.nearest_first.Statement.{statement}
 use Rattle.glider.proofs.nearest_first.Tie as tie
+use Rattle.laws.specs.Lists.{numbers}
 
 record Inv (m : ℕ) (cells : List ℕ) (taken₀ taken : List Bool) (pairing₀ pairing : List ℕ) (track : ℕ) : Type 0 where
   upto : track ≤ length pairing₀

@@ -3,10 +3,11 @@ use Prim.Native.Nat.{_-_}
 use lib.ListN.{length}
 use Rattle.matching.specs.Pairing.{none}
 use Rattle.laws.proofs.Fold.{Stepped, stepped-none}
-use Rattle.laws.proofs.Rounds.{numbers, round-more, round-end}
+use Rattle.laws.proofs.Rounds.{round-more, round-end}
 use Rattle.glider.specs.Nearest.{nearerOf, nearestOf}
 use Rattle.glider.proofs.nearest_free.Statement.{statement}
 use Rattle.glider.proofs.nearest_free.Tie as tie
+use Rattle.laws.specs.Lists.{numbers}
 
 abbrev Inv-loop : tie.InvT-loop
 Inv-loop row taken nearest₀ j₀ nearest j = Stepped (nearerOf row taken) (numbers (length row)) none nearest j

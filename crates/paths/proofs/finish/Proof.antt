@@ -1,4 +1,4 @@
-use Rattle.paths.proofs.Settle.{flips-free, settled-free, settled-track, left-out, flips-leaver, settled-leaver}
+use Rattle.paths.proofs.Finished.{flips-free, finished-free, finished-track, left-out, flips-leaver, finished-leaver}
 use native.Mathlib.Omega.{arith}
 use borrow.Author.Needs.{needs}
 use Rattle.paths.proofs.finish.Statement.{statement}
@@ -16,11 +16,11 @@ same-length-2 c = search needs
 
 returns : tie.Need-returns
 returns c = let s = c .before .before .before .before .before .before .before .before .before .before .before .before .before .before .before in
-    settled-free _ _ _ _ _ _ _ _ _ _ _ _ (s .pre) (c .before .before .before .before .before .before .before .if1 .taken) _ _ (c .before .before .before .before .flip .ensures)
+    finished-free _ _ _ _ _ _ _ _ _ _ _ _ (s .pre) (c .before .before .before .before .before .before .before .if1 .taken) _ _ (c .before .before .before .before .flip .ensures)
 
 returns-2 : tie.Need-returns-2
 returns-2 c = let s = c .before .before .before .before .before .before .before .before .before in
-    settled-track _ _ _ _ _ _ _ _ _ _ _ _ (s .pre) (c .before .if1 .left) (c .if2 .taken)
+    finished-track _ _ _ _ _ _ _ _ _ _ _ _ (s .pre) (c .before .if1 .left) (c .if2 .taken)
 
 index-requires : tie.Need-index-requires
 index-requires c κs = search needs
@@ -51,7 +51,7 @@ same-length-4 c = search needs
 
 returns-3 : tie.Need-returns-3
 returns-3 c = let s = c .before .before .before .before .before .before .before .before .before .before .before .before .before .before .before .before .before .before in
-    settled-leaver _ _ _ _ _ _ _ _ _ _ _ _ (s .pre) (c .before .before .before .before .before .before .before .before .before .before .if1 .left) (c .before .before .before .before .before .before .before .before .before .if2 .left) _ (c .before .before .before .before .before .before .before .before .index .ensures) _ _ (c .before .before .before .before .flip2 .ensures)
+    finished-leaver _ _ _ _ _ _ _ _ _ _ _ _ (s .pre) (c .before .before .before .before .before .before .before .before .before .before .if1 .left) (c .before .before .before .before .before .before .before .before .before .if2 .left) _ (c .before .before .before .before .before .before .before .before .index .ensures) _ _ (c .before .before .before .before .flip2 .ensures)
 
 pub finish-spec : {M : Type 1} → statement M
 finish-spec =

@@ -1,6 +1,6 @@
 use borrow.Author.Needs.{needs}
 use native.Mathlib.Omega.{arith}
-use Rattle.paths.proofs.Lift.{searched, paid, price-small, finishable, inserted, reached}
+use Rattle.paths.proofs.Raised.{searched, paid, price-small, finishable, inserted, reached}
 use Rattle.paths.proofs.insert.Statement.{statement}
 use Rattle.paths.proofs.insert.Tie as tie
 

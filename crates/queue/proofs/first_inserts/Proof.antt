@@ -1,5 +1,5 @@
 use Rattle.queue.proofs.Rise.{good-at, good-len, to-search}
-use Rattle.paths.specs.State.{Good, Rooms}
+use Rattle.paths.specs.State.{Good, SearchLists}
 use Prim.Native.Nat.{_≤_, _-_}
 use lib.ListN.{length}
 use native.Mathlib.Omega.{arith}
@@ -8,7 +8,7 @@ use Rattle.queue.proofs.first_inserts.Statement.{statement}
 use Rattle.queue.proofs.first_inserts.Tie as tie
 
 abbrev Inv-loop : tie.InvT-loop
-Inv-loop sheet reports pairing₀ owner₀ prices₀ discounts₀ labels₀ via₀ closings₀ round₀ pairing owner prices discounts labels via closings round = Good sheet reports (length prices₀) pairing owner prices discounts × (Rooms reports labels via closings × (round ≤ length prices₀))
+Inv-loop sheet reports pairing₀ owner₀ prices₀ discounts₀ labels₀ via₀ closings₀ round₀ pairing owner prices discounts labels via closings round = Good sheet reports (length prices₀) pairing owner prices discounts × (SearchLists reports labels via closings × (round ≤ length prices₀))
 
 abbrev μ-loop : tie.MeasureT-loop
 μ-loop sheet reports pairing₀ owner₀ prices₀ discounts₀ labels₀ via₀ closings₀ round₀ pairing owner prices discounts labels via closings round = length prices₀ - round

@@ -1,6 +1,6 @@
 use Rattle.queue.proofs.Rise.{lifting-at}
 use Rattle.queue.specs.State.{Lifting}
-use Rattle.paths.specs.State.{Rooms}
+use Rattle.paths.specs.State.{SearchLists}
 use mathlib.Core.Path.{sym}
 use Prim.Native.Nat.{_≤_, _-_}
 use lib.ListN.{length}
@@ -10,7 +10,7 @@ use Rattle.queue.proofs.lifted_inserts.Statement.{statement}
 use Rattle.queue.proofs.lifted_inserts.Tie as tie
 
 abbrev Inv-loop : tie.InvT-loop
-Inv-loop sheet reports pairing₀ owner₀ prices₀ discounts₀ labels₀ via₀ closings₀ slack₀ round₀ pairing owner prices discounts labels via closings slack round = Lifting sheet reports (length prices₀) pairing owner prices discounts slack × (Rooms reports labels via closings × (round ≤ length prices₀))
+Inv-loop sheet reports pairing₀ owner₀ prices₀ discounts₀ labels₀ via₀ closings₀ slack₀ round₀ pairing owner prices discounts labels via closings slack round = Lifting sheet reports (length prices₀) pairing owner prices discounts slack × (SearchLists reports labels via closings × (round ≤ length prices₀))
 
 abbrev μ-loop : tie.MeasureT-loop
 μ-loop sheet reports pairing₀ owner₀ prices₀ discounts₀ labels₀ via₀ closings₀ slack₀ round₀ pairing owner prices discounts labels via closings slack round = length prices₀ - round

@@ -1,7 +1,8 @@
 use borrow.Author.Needs.{needs}
 use native.Mathlib.Omega.{arith}
-use Prim.Native.Nat.{_+_, _%_}
-use Rattle.sheets.proofs.Small.{small}
+use Prim.Native.Nat.{_+_, _%_, _≤_}
+use native.Mathlib.Nat.{mul-le-mul}
+use Rattle.matching.specs.Pairing.{mostTracks, mostReports}
 use Rattle.sheets.proofs.cell_of.Statement.{statement}
 use Rattle.sheets.proofs.cell_of.Tie as tie
 
@@ -27,10 +28,16 @@ add-result-2 : tie.Need-add-result-2
 add-result-2 c = search needs
 
 mul-result : tie.Need-mul-result
-mul-result c = omega (arith, small (c .before .args .row % 100 + 1) (c .before .args .column % 100 + 1) (omega arith) (omega arith))
+mul-result c =
+    let row : c .before .args .row % mostTracks + 1 ≤ mostTracks = omega arith in
+    let column : c .before .args .column % mostReports + 1 ≤ mostReports = omega arith in
+    omega (arith, mul-le-mul row column)
 
 cast-result : tie.Need-cast-result
-cast-result c = omega (arith, small (c .before .args .row % 100 + 1) (c .before .args .column % 100 + 1) (omega arith) (omega arith))
+cast-result c =
+    let row : c .before .args .row % mostTracks + 1 ≤ mostTracks = omega arith in
+    let column : c .before .args .column % mostReports + 1 ≤ mostReports = omega arith in
+    omega (arith, mul-le-mul row column)
 
 returns : tie.Need-returns
 returns c = search needs

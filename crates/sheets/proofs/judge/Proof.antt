@@ -2,7 +2,8 @@ use borrow.Author.Needs.{needs}
 use mathlib.Core.Path.{sym}
 use native.Mathlib.Omega.{arith}
 use lib.Seq.{length-take-le}
-use Rattle.sheets.proofs.Small.{small}
+use native.Mathlib.Nat.{mul-le-mul}
+use Rattle.matching.specs.Pairing.{mostTracks}
 use Rattle.sheets.proofs.judge.Statement.{statement}
 use Rattle.sheets.proofs.judge.Tie as tie
 
@@ -18,8 +19,7 @@ wrapping-sub-u64-requires c κs = search needs
 least-total-requires : tie.Need-least-total-requires
 least-total-requires c κs =
     let p = c .before .before .before .before .before .before .pre in
-    let given = c .before .before .before .before .before .before .args in
-    (p .0, (p .1 .0, (omega (arith, small (given .tracks) (given .reports) (p .0) (p .1 .0)), (omega arith, omega arith))))
+    (p .0, (p .1 .0, (omega (arith, mul-le-mul {n₂ = mostTracks} (p .0) (p .1 .0)), (omega arith, omega arith))))
 
 cast-one-if : tie.Need-cast-one-if
 cast-one-if c = search needs

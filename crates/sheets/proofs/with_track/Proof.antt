@@ -1,6 +1,7 @@
 use borrow.Author.Needs.{needs}
 use native.Mathlib.Omega.{arith}
-use Rattle.sheets.proofs.Small.{small}
+use native.Mathlib.Nat.{mul-le-mul}
+use Rattle.matching.specs.Pairing.{mostTracks}
 use Rattle.sheets.proofs.with_track.Statement.{statement}
 use Rattle.sheets.proofs.with_track.Tie as tie
 
@@ -11,10 +12,10 @@ wrapping-add-u64-requires : tie.Need-wrapping-add-u64-requires
 wrapping-add-u64-requires c κs = search needs
 
 mul-score-at : tie.Need-mul-score-at
-mul-score-at c = omega (arith, small (c .before .before .before .args .track) (c .before .before .before .args .reports) (c .before .before .before .pre .0) (c .before .before .before .pre .1))
+mul-score-at c = omega (arith, mul-le-mul {n₂ = mostTracks} (c .before .before .before .pre .0) (c .before .before .before .pre .1))
 
 add-score-at : tie.Need-add-score-at
-add-score-at c = omega (arith, small (c .before .before .before .args .track) (c .before .before .before .args .reports) (c .before .before .before .pre .0) (c .before .before .before .pre .1), c .before .before .before .pre .1)
+add-score-at c = omega (arith, mul-le-mul {n₂ = mostTracks} (c .before .before .before .pre .0) (c .before .before .before .pre .1), c .before .before .before .pre .1)
 
 score-at-requires : tie.Need-score-at-requires
 score-at-requires c κs = search needs

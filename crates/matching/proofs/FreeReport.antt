@@ -54,8 +54,8 @@ has? n j P =
     (each-or-one (λ k. not (eqb (P k) j)) n)
 
 -- A track that a best pairing leaves out has no admissible report that is unused: some track has it.
-pub no-report-unused : (S : Sheet) (P : ℕ → ℕ) → Best S P → S .reports ≤ none → (i j : ℕ) → i < S .tracks → P i ≡ none → j < S .reports → Admissible S i j → (k : ℕ) × ((k < S .tracks) × (P k ≡ j))
-no-report-unused S P b few i j li e lj a =
+pub no-free-report : (S : Sheet) (P : ℕ → ℕ) → Best S P → S .reports ≤ none → (i j : ℕ) → i < S .tracks → P i ≡ none → j < S .reports → Admissible S i j → (k : ℕ) × ((k < S .tracks) × (P k ≡ j))
+no-free-report S P b few i j li e lj a =
     ⊎-elim
     (λ unused. absurd (b .most (with i j P) (with-valid S P i j (b .valid) li lj a unused) (with-more S P i j (b .valid) li lj a unused e (λ z. omega arith))))
     (λ w. w)

@@ -8,7 +8,7 @@ use lib.ListN.{set}
 use Rattle.laws.specs.Lists.{at}
 use Rattle.matching.specs.Pairing.{none, leftOut}
 use Rattle.passes.specs.Cells.{far}
-use Rattle.paths.specs.State.{Flips, Flipped, LeftOut, Finishable, Settled}
+use Rattle.paths.specs.State.{Flips, Flipped, OutAtFullPrice, Finishable, Finished}
 use Rattle.laws.proofs.Stores.{same-or}
 use Rattle.paths.proofs.Swap.{free-vacant, gone, stays, vacated, shape₁, way-back-set}
 
@@ -35,8 +35,8 @@ module _ (cells : List ℕ) (m n : ℕ) (prices discounts : List ℕ) (track : �
       });
     }
 
-    pub settled-free : (pairing′ owner′ : List ℕ) → Flipped cells m n prices discounts track pairing owner pairing′ owner′ → Settled cells m n prices discounts track pairing owner pairing′ owner′
-    settled-free pairing′ owner′ F = record {
+    pub finished-free : (pairing′ owner′ : List ℕ) → Flipped cells m n prices discounts track pairing owner pairing′ owner′ → Finished cells m n prices discounts track pairing owner pairing′ owner′
+    finished-free pairing′ owner′ F = record {
       shape = F .shape;
       moved = F .moved;
       matched = F .whole .matched;
@@ -45,11 +45,11 @@ module _ (cells : List ℕ) (m n : ℕ) (prices discounts : List ℕ) (track : �
     }
 
   module _ (no-report : report ≡ none) where
-    at-leaver : LeftOut m n pairing prices track closings leaver
+    at-leaver : OutAtFullPrice m n pairing prices track closings leaver
     at-leaver = ⊎-elim (λ x. absurd (omega (arith, x .0, T .shape .reports-few))) (λ x. x .1) (T .end)
 
-    pub settled-track : leaver ≡ track → Settled cells m n prices discounts track pairing owner pairing owner
-    settled-track e = record {
+    pub finished-track : leaver ≡ track → Finished cells m n prices discounts track pairing owner pairing owner
+    finished-track e = record {
       shape = T .shape;
       moved = record { came-in = λ i h l. inl l; free = λ j h z. z };
       matched = T .matched;
@@ -90,8 +90,8 @@ module _ (cells : List ℕ) (m n : ℕ) (prices discounts : List ℕ) (track : �
       pub flips-leaver : (place : ℕ) → place ≡ leaver → Flips cells m n prices discounts track via closings (set pairing place none) owner (set pairing place none) owner (at pairing place)
       flips-leaver place e = rw e flips-vacated
 
-      pub settled-leaver : (place : ℕ) → place ≡ leaver → (pairing′ owner′ : List ℕ) → Flipped cells m n prices discounts track (set pairing place none) owner pairing′ owner′ → Settled cells m n prices discounts track pairing owner pairing′ owner′
-      settled-leaver place e pairing′ owner′ F =
+      pub finished-leaver : (place : ℕ) → place ≡ leaver → (pairing′ owner′ : List ℕ) → Flipped cells m n prices discounts track (set pairing place none) owner pairing′ owner′ → Finished cells m n prices discounts track pairing owner pairing′ owner′
+      finished-leaver place e pairing′ owner′ F =
           let G : Flipped cells m n prices discounts track pairing₁ owner pairing′ owner′ = rw e at F in
           record {
             shape = G .shape;

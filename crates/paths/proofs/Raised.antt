@@ -9,7 +9,7 @@ use lib.Seq.{getD-set-same, getD-set-other}
 use Rattle.laws.specs.Lists.{at}
 use Rattle.matching.specs.Pairing.{none, leftOut}
 use Rattle.passes.specs.Cells.{Searched, Paid, far, PricesUp, DiscountsUp}
-use Rattle.paths.specs.State.{cell, Shape, Prices, Own, Match, Closed, Link, Tight, Searchable, Ended, Finishable, Settled, Done, Inserted, Reached}
+use Rattle.paths.specs.State.{cell, Shape, Prices, Own, Match, Closed, Link, Tight, Searchable, Ended, Finishable, Finished, PairedOrOut, Inserted, Reached}
 use Rattle.laws.proofs.Stores.{le-or-lt, same-or}
 use Rattle.paths.proofs.Swap.{reshaped, free-zero}
 
@@ -129,10 +129,10 @@ module _ {cells : List ℕ} {m track : ℕ} {pairing owner prices discounts labe
         (E .end);
   }
 
-  inserted-track : {pairing′ owner′ : List ℕ} → Settled cells m n prices₂ discounts₁ track pairing owner pairing′ owner′ → Inserted cells m n track pairing prices pairing′ owner′ prices₂ discounts₁
+  inserted-track : {pairing′ owner′ : List ℕ} → Finished cells m n prices₂ discounts₁ track pairing owner pairing′ owner′ → Inserted cells m n track pairing prices pairing′ owner′ prices₂ discounts₁
   inserted-track {pairing′} S = record {
     good = record { shape = S .shape; numbers = fair₂; matched = S .matched };
-    done = λ i h a. three (Done m pairing′ prices₂ i) i h (λ q. rw q (S .track-done)) (λ p b. S .done i h p)
+    done = λ i h a. three (PairedOrOut m pairing′ prices₂ i) i h (λ q. rw q (S .track-done)) (λ p b. S .done i h p)
         (λ d z. ⊎-elim (λ p. absurd (omega (arith, R .good .shape .reports-few))) (λ e. inr (price-unpaired i h d z ∙ e)) a);
     track-done = S .track-done;
   }
@@ -151,7 +151,7 @@ module _ {cells : List ℕ} {m track : ℕ} {pairing owner prices discounts labe
       (λ q. inr (omega (arith, ap (at prices₂) q, price-track, E .root j g (rw q at a), ap (λ (k : ℕ). cell cells m k j) q)))
       f
 
-  reached-track : {pairing′ owner′ : List ℕ} → Settled cells m n prices₂ discounts₁ track pairing owner pairing′ owner′ → Reached cells m n pairing owner prices labels reach pairing′ owner′ prices₂
+  reached-track : {pairing′ owner′ : List ℕ} → Finished cells m n prices₂ discounts₁ track pairing owner pairing′ owner′ → Reached cells m n pairing owner prices labels reach pairing′ owner′ prices₂
   reached-track S = record {
     labels-long = E .labels-long;
     searched = searched E;
@@ -173,15 +173,15 @@ module _ {cells : List ℕ} {m track : ℕ} {pairing owner prices discounts labe
     pub finishable : Finishable cells m (length prices-now) prices-now discounts₁ track via closings report leaver pairing owner
     finishable = subst (λ (k : ℕ). Finishable cells m k prices-now discounts₁ track via closings report leaver pairing owner) (sym prices-now-long) (rw e finishable-track)
 
-    module _ {pairing′ owner′ : List ℕ} (S : Settled cells m (length prices-now) prices-now discounts₁ track pairing owner pairing′ owner′) where
-      settled-track : Settled cells m n prices₂ discounts₁ track pairing owner pairing′ owner′
-      settled-track = (rw e at (subst (λ (k : ℕ). Settled cells m k prices-now discounts₁ track pairing owner pairing′ owner′) prices-now-long S))
+    module _ {pairing′ owner′ : List ℕ} (S : Finished cells m (length prices-now) prices-now discounts₁ track pairing owner pairing′ owner′) where
+      finished-track : Finished cells m n prices₂ discounts₁ track pairing owner pairing′ owner′
+      finished-track = (rw e at (subst (λ (k : ℕ). Finished cells m k prices-now discounts₁ track pairing owner pairing′ owner′) prices-now-long S))
 
       pub inserted : Inserted cells m n track pairing prices pairing′ owner′ prices-now discounts₁
-      inserted = rw e (inserted-track settled-track)
+      inserted = rw e (inserted-track finished-track)
 
       pub reached : Reached cells m n pairing owner prices labels reach pairing′ owner′ prices-now
-      reached = rw e (reached-track settled-track)
+      reached = rw e (reached-track finished-track)
 
 -- a report nearer than reach is its owner's
 pub paid : {cells : List ℕ} {m track : ℕ} {pairing owner prices discounts labels₀ via₀ closings₀ : List ℕ} {reach report leaver : ℕ} {labels via closings : List ℕ}

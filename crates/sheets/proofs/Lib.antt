@@ -1,2 +1,0 @@
--- A bound that several proofs cite.
-pub mod Small
