@@ -9,7 +9,7 @@ constexpr int MAX_TRACKS = 100, MAX_REPORTS = 200;
 
 // Pairing (a report a track, or NONE), prices and discounts of a sheet whose cells were tested.
 inline void plain_pair(int tracks, int reports, const uint32_t *sheet, uint32_t *pairing, uint32_t *prices, uint32_t *discounts) {
-    int32_t owner[MAX_REPORTS], dist[MAX_REPORTS], parent[MAX_REPORTS];
+    int32_t owner[MAX_REPORTS], dist[MAX_REPORTS], via[MAX_REPORTS];
     bool used[MAX_REPORTS];
     for (int j = 0; j < reports; j++) { owner[j] = -1; discounts[j] = 0; }
     for (int i = 0; i < tracks; i++) { pairing[i] = NONE; prices[i] = 0; }
@@ -25,7 +25,7 @@ inline void plain_pair(int tracks, int reports, const uint32_t *sheet, uint32_t 
                 if (used[j]) continue;
                 if (row[j] != NONE) {
                     int32_t d = at + (int32_t)row[j] - (int32_t)prices[track] + (int32_t)discounts[j];
-                    if (d < dist[j]) { dist[j] = d; parent[j] = track; }
+                    if (d < dist[j]) { dist[j] = d; via[j] = track; }
                 }
                 if (dist[j] < best) { best = dist[j]; next = j; }
             }
@@ -43,18 +43,18 @@ inline void plain_pair(int tracks, int reports, const uint32_t *sheet, uint32_t 
                 prices[owner[j]] += at - dist[j];
                 discounts[j] += at - dist[j];
             }
-        int hole = free_report;
-        if (hole < 0) {
+        int vacant = free_report;
+        if (vacant < 0) {
             if (leaver == first) continue;
-            hole = (int)pairing[leaver];
+            vacant = (int)pairing[leaver];
             pairing[leaver] = NONE;
         }
-        while (hole >= 0) {
-            int t = parent[hole];
+        while (vacant >= 0) {
+            int t = via[vacant];
             int before = pairing[t] == NONE ? -1 : (int)pairing[t];
-            pairing[t] = (uint32_t)hole;
-            owner[hole] = t;
-            hole = t == first ? -1 : before;
+            pairing[t] = (uint32_t)vacant;
+            owner[vacant] = t;
+            vacant = t == first ? -1 : before;
         }
     }
 }
