@@ -1,5 +1,7 @@
 // The pairing of any sheet, with the prices and discounts that show it best: each track claims the report of its least score, and
 // one that gets none is inserted by one search.
+#![tactic(auto)]
+
 ghost use Rattle.std.specs.Prelude.{◌≡◌, ℕ, ◌<◌, length};
 ghost use Rattle.laws.specs.Lists.{at};
 ghost use Rattle.matching.specs.Pairing.{none};
@@ -16,7 +18,7 @@ use queue::insert_all;
 const WIDEST: usize = 200;
 
 // The answer of the pairing call: 01's number, or the lists are written.
-#[derive(Drop)]
+#[derive(Clone, Copy)]
 pub enum Paired {
     Refused(u8),
     Done,

@@ -1,5 +1,7 @@
 // Document 01's examples, run: a line each, in 01's order, and then its gains. Their numbers are held to the file stdout, which was
 // written from 01. The starred ones are proved of the definitions besides (specs/Starred.antt).
+#![tactic(auto)]
+
 ghost use Rattle.std.specs.Prelude.{◌≤◌, ◌<◌, nat_abs};
 ghost use Rattle.numbers.specs.Scales.{range_most, half_turn, sectors, range_speed_most, int_end};
 ghost use Rattle.records.specs.Fields.{confidence_most, quality_most, high_circle, low_circle, Sound};
@@ -206,7 +208,7 @@ fn waits() {
 }
 
 // Which of the two gains, both in tenths: of the prediction or of the speed.
-#[derive(Drop)]
+#[derive(Clone, Copy)]
 enum Coefficient {
     A,
     B,

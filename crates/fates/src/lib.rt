@@ -1,4 +1,6 @@
 // What becomes of each report: paired, started, weak, full.
+#![tactic(auto)]
+
 ghost use Rattle.std.specs.Prelude.{◌≡◌, cond, ◌++◌, ◌≤◌, ◌<◌, eqb, length, take, drop};
 ghost use Rattle.numbers.specs.Scales.{sectors};
 ghost use Rattle.intake.specs.Refusals.{most_slots, most_batch};
@@ -21,7 +23,7 @@ const NO_SLOT: u16 = 65_535;
 const SHOWN_FROM: u8 = 3;
 
 // What is told of one report.
-#[derive(Drop)]
+#[derive(Clone, Copy)]
 pub struct Told {
     pub fate: u8,
     pub slot: u16,

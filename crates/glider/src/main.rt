@@ -1,5 +1,7 @@
 // The glider over the ridge: two due tracks, two returns. What the old filter, nearest report first in table order, makes of them,
 // and what the pairing call and the sector call make of them.
+#![tactic(auto)]
+
 ghost use Rattle.std.specs.Prelude.{◌≡◌, true, ◌≤◌, ◌<◌, length, set};
 ghost use Rattle.records.specs.Bytes.{bytes_of, report_bytes_of};
 ghost use Rattle.numbers.specs.Scales.{range_speed_most, azimuth_speed_most};

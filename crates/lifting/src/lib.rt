@@ -1,5 +1,7 @@
 // Passes by which the prices of all pairs rise together. A report's slack is how far the price of any paired track may rise until it
 // meets the score of that report, which is free. So all pairs rise by the least slack, and no search has to go through them for less.
+#![tactic(auto)]
+
 ghost use Rattle.std.specs.Prelude.{◌≡◌, ℕ, ◌+◌, ◌-◌, ◌%◌, ◌<◌, ◌≤◌, ◌^◌, length};
 ghost use Rattle.laws.specs.Lists.{at};
 ghost use Rattle.matching.specs.Pairing.{none, left_out, most_tracks};

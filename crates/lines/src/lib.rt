@@ -1,4 +1,6 @@
 // The lines of text that a program prints, put one behind the other into a lent buffer.
+#![tactic(auto)]
+
 ghost use Rattle.std.specs.Prelude.{◌≡◌, ◌+◌, ◌*◌, ◌≤◌, length};
 ghost use Rattle.lines.specs.Text.{most_digits, most_number, numeral, separator_of, line_of, Put};
 

@@ -1,4 +1,6 @@
 // The referee: checks that a pairing of tracks with reports is best, by prices and discounts that show it. It knows of no engine.
+#![tactic(auto)]
+
 ghost use Rattle.std.specs.Prelude.{◌≡◌, true, cond, not, ◌&&◌, ◌+◌, ◌*◌, ◌≤◌, ◌<◌, ◌^◌, eqb, length};
 ghost use Rattle.laws.specs.Sums.{sum};
 ghost use Rattle.laws.specs.Tests.{each};

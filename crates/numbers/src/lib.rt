@@ -1,4 +1,6 @@
 // Ranges, azimuths that go round, sectors, and whole numbers with a sign.
+#![tactic(auto)]
+
 ghost use Rattle.std.specs.Prelude.{◌≡◌, ◌+◌, ◌-◌, ◌*◌, ◌/◌, ◌^◌, ◌<◌, ◌≤◌, min, max, not, pos, ◌+ℤ◌, ◌-ℤ◌, ◌*ℤ◌, nat_le, unsigned_abs};
 ghost use Rattle.std.specs.Int.Signed.{non_neg};
 ghost use Rattle.numbers.specs.Scales.{turn, half_turn, sectors, int_end};
@@ -25,7 +27,7 @@ const SOONEST: u8 = 16;
 
 // A whole number with a sign. It goes by value in a struct so that a contract and a caller's proof speak of the number and
 // not of its bits.
-#[derive(Drop)]
+#[derive(Clone, Copy)]
 pub struct Int {
     pub v: i64,
 }

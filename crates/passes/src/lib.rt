@@ -1,5 +1,7 @@
 // The engine's passes over a row of the sheet and over its lists. A loop body is one call of a by-value function and has no branch, so
 // that it goes by vectors. Lists have an entry a report; a label says how far a search has to go to reach that report.
+#![tactic(auto)]
+
 ghost use Rattle.std.specs.Prelude.{◌≡◌, ℕ, ◌+◌, ◌-◌, ◌*◌, ◌<◌, ◌≤◌, ◌^◌, length, ◌⊎◌};
 ghost use Rattle.laws.specs.Lists.{at};
 ghost use Rattle.matching.specs.Pairing.{none, left_out};
@@ -19,7 +21,7 @@ const LAST_KEY: u32 = KEY_SCORES * KEY_PLACES - 1;
 const NEAR: u32 = KEY_SCORES - 1;
 
 // The least score of a row, and a report that has it.
-#[derive(Drop)]
+#[derive(Clone, Copy)]
 pub struct Cheapest {
     pub score: u32,
     pub report: u32,

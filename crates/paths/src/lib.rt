@@ -1,4 +1,6 @@
 // One track more: a search from it, prices that rise once, and a pairing that changes along the way back.
+#![tactic(auto)]
+
 ghost use Rattle.std.specs.Prelude.{◌+◌, ◌≡◌, true, length};
 ghost use Rattle.laws.specs.Lists.{at};
 ghost use Rattle.paths.specs.State.{Offered, Offerable, Searchable, Standing, is_taken, Endable, EndsAt, Ended, Flips, Flipped, Finishable, Finished, Inserted, Reached};
@@ -10,7 +12,7 @@ use passes::{
 
 // Where a search stands: what leaving a track out would cost, and which; how many reports are closed, before which report all are,
 // and the nearest open one, the number of reports if none is nearer than leaving a track out.
-#[derive(Drop)]
+#[derive(Clone, Copy)]
 struct Progress {
     leaving: u32,
     leaver: u32,
@@ -20,7 +22,7 @@ struct Progress {
 }
 
 // How a search ended: at which label, with a free report or with a track that is left out, and after how many closed reports.
-#[derive(Drop)]
+#[derive(Clone, Copy)]
 struct Ending {
     label: u32,
     report: u32,
@@ -29,7 +31,7 @@ struct Ending {
 }
 
 // How far a search went, and through how many reports.
-#[derive(Drop)]
+#[derive(Clone, Copy)]
 pub struct Reach {
     pub label: u32,
     pub closed: u32,

@@ -1,4 +1,6 @@
 // Runs a file of batches: reads standard input and prints what came of it.
+#![tactic(auto)]
+
 fn main() {
     batchrun::run_file();
 }

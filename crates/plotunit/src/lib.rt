@@ -1,5 +1,7 @@
 // The C border: the four public calls. A slice is a pointer and a count. 0 means served; anything else is the number of the
 // refusal, and then nothing that was lent has changed.
+#![tactic(auto)]
+
 ghost use Rattle.std.specs.Prelude.{◌≡◌};
 ghost use Rattle.intake.specs.Refusals.{input};
 ghost use Rattle.sector.specs.Serve.{lent, count_list};

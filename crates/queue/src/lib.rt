@@ -1,6 +1,8 @@
 // The tracks without a report stand in a queue, the most exacting first, and are inserted one by one. Once a search has gone a long
 // way, the prices of all pairs rise together before each insertion as far as the free reports allow: then the next search meets a free
 // report before it goes through them.
+#![tactic(auto)]
+
 ghost use Rattle.std.specs.Prelude.{◌≡◌, ◌+◌, ◌<◌, ◌≤◌, length};
 ghost use Rattle.laws.specs.Lists.{at};
 ghost use Rattle.matching.specs.Pairing.{none};

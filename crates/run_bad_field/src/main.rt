@@ -1,4 +1,6 @@
 // The batch program on a report with a bad field behind one of another sector: refusal 6 comes first.
+#![tactic(auto)]
+
 fn main() {
     batchrun::run_file();
 }

@@ -1,4 +1,6 @@
 // The batch program on a file longer than its buffers: batches and lines lie across their ends.
+#![tactic(auto)]
+
 fn main() {
     batchrun::run_file();
 }

@@ -1,4 +1,6 @@
 // The batch program on aircraft that cross north between turns, both ways.
+#![tactic(auto)]
+
 fn main() {
     batchrun::run_file();
 }

@@ -1,4 +1,6 @@
 // The batch program on a file of another version, whose low byte is right.
+#![tactic(auto)]
+
 fn main() {
     batchrun::run_file();
 }

@@ -1,4 +1,6 @@
 // A sector's score sheet: due tracks in slot order, reports in batch order.
+#![tactic(auto)]
+
 ghost use Rattle.std.specs.Prelude.{◌≡◌, ◌++◌, map, ◌+◌, ◌*◌, ◌<◌, length, drop};
 ghost use Rattle.intake.specs.Refusals.{input, Ready};
 ghost use Rattle.scoresheet.specs.Cells.{cell_of, pair_cell, cells_of};
@@ -8,7 +10,7 @@ ghost use Rattle.scoresheet.specs.Ready.{RowReady, RowsReady};
 use records::{Site, Track};
 use scoring::Scored;
 
-#[derive(Drop)]
+#[derive(Clone, Copy)]
 pub enum Sheeted {
     Refused(u8),
     Sheet(usize, usize),

@@ -1,4 +1,6 @@
 // A pair of a track and a report: admissible or not, and its score.
+#![tactic(auto)]
+
 ghost use Rattle.std.specs.Prelude.{◌≡◌, cond, ◌+◌, ◌-◌, ◌*◌, ◌^◌, ◌≤◌, ◌<◌, max, leb, nat_abs};
 ghost use Rattle.numbers.specs.Scales.{range_most, half_turn, range_speed_most};
 ghost use Rattle.scoring.specs.Zone.{range_off, azimuth_off, within_sigmas, outer_sigmas, azimuth_reach, within_reach, within_outer, zone_of};
@@ -42,7 +44,7 @@ pub const DOPPLER_WORTH: u32 = 64;
 
 const AGE_WORTH: u32 = 8;
 
-#[derive(Drop)]
+#[derive(Clone, Copy)]
 pub enum Scored {
     NotAdmissible,
     Score(u32),

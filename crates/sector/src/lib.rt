@@ -1,4 +1,6 @@
 // The sector call: one call serves one sector.
+#![tactic(auto)]
+
 ghost use Rattle.std.specs.Prelude.{◌≡◌, ◌*◌, ◌<◌, ◌≤◌, length, take};
 ghost use Rattle.numbers.specs.Sectors.{next_sector};
 ghost use Rattle.intake.specs.Refusals.{input, most_due, most_batch, due_slots, Ready};
@@ -17,7 +19,7 @@ use walk::MissedCounts;
 // A cell for each pair of the largest sector.
 const MOST_CELLS: usize = intake::MOST_DUE * intake::MOST_BATCH;
 
-#[derive(Drop)]
+#[derive(Clone, Copy)]
 pub struct Counts {
     pub paired: u32,
     pub coasted: u32,
@@ -29,7 +31,7 @@ pub struct Counts {
 }
 
 // The answer of the sector call: the number of its refusal, or its counts where it is served.
-#[derive(Drop)]
+#[derive(Clone, Copy)]
 pub enum Served {
     Refused(u8),
     Done(Counts),

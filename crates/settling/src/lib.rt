@@ -1,4 +1,6 @@
 // What becomes of one track after pairing: updated, coasted, dropped, started, aged.
+#![tactic(auto)]
+
 ghost use Rattle.std.specs.Prelude.{◌≡◌, ◌+◌, ◌*◌, ◌≤◌, ◌<◌, min, pos, nat_abs, ◌*ℤ◌};
 ghost use Rattle.numbers.specs.Scales.{range_most, sectors, range_speed_most, azimuth_speed_most};
 ghost use Rattle.records.specs.Fields.{held, Sound};
@@ -38,7 +40,7 @@ const DEGRADED_B: u32 = 3;
 const UPDATES_MOST: u8 = 255;
 
 // What becomes of a track that is missed: due, and without a pair.
-#[derive(Drop)]
+#[derive(Clone, Copy)]
 pub enum Missed {
     Coasts(Track),
     Dropped,

@@ -1,5 +1,7 @@
 // Runs the pairing call and the check on some hundred fixed sheets: every size up to 5 by 5 against a search of all pairings, and sheets
 // of 100 by 100. A line a family: sheets, accepted by the check, as good as the search of all, pairs, sum of scores.
+#![tactic(auto)]
+
 ghost use Rattle.std.specs.Prelude.{◌≡◌, ◌+◌, ◌-◌, ◌*◌, ◌^◌, ◌<◌, ◌≤◌, length};
 ghost use Rattle.matching.specs.Pairing.{most_tracks, most_reports};
 
@@ -13,7 +15,7 @@ const CELLS: usize = MOST_TRACKS * MOST_REPORTS;
 const NUMBERS: u64 = 2147483648;
 
 // What a family came to.
-#[derive(Drop)]
+#[derive(Clone, Copy)]
 struct Tally {
     sheets: u64,
     accepted: u64,
@@ -23,7 +25,7 @@ struct Tally {
 }
 
 // One pairing: its pairs, and the sum of their scores.
-#[derive(Drop)]
+#[derive(Clone, Copy)]
 struct Pairs {
     pairs: u64,
     scores: u64,

@@ -1,4 +1,6 @@
 // The table after pairing: each slot settled or aged, with its price.
+#![tactic(auto)]
+
 ghost use Rattle.std.specs.Prelude.{◌≡◌, false, cond, [], ◌++◌, map, ◌≤◌, ◌<◌, eqb, length, get_or, drop};
 ghost use Rattle.numbers.specs.Scales.{sectors};
 ghost use Rattle.records.specs.Fields.{WellFormed, Sound};
@@ -16,7 +18,7 @@ use records::Site;
 use settling::Missed;
 
 // How many of the missed tracks coast, and how many are dropped.
-#[derive(Drop)]
+#[derive(Clone, Copy)]
 pub struct MissedCounts {
     pub coasted: u32,
     pub dropped: u32,
