@@ -1,0 +1,6 @@
+use Rattle.numbers.specs.Whole.{circular_distance}
+use Rattle.numbers.proofs.circular_distance.Goals as goal
+
+pub returns : goal.returns
+unfolding circular_distance
+returns c = cc
