@@ -1,0 +1,10 @@
+use Rattle.paths.specs.State.{Good, SearchLists}
+use Prim.Native.Nat.{◌≤◌, ◌-◌}
+use lib.ListN.{length}
+use Rattle.queue.proofs.first_inserts.Given as goal
+
+abbrev pub invariant-loop-round : goal.invariant-loop-round
+invariant-loop-round l = Good l.sheet l.reports (length l.initial.prices) l.pairing l.owner l.prices l.discounts × (SearchLists l.reports l.labels l.via l.closings × (l.round ≤ length l.initial.prices))
+
+abbrev pub decreases-loop-round : goal.decreases-loop-round
+decreases-loop-round l = length l.initial.prices - l.round

@@ -1,0 +1,26 @@
+use Rattle.records.specs.Bytes.{track_of}
+use Rattle.settling.specs.Settle.{without_pair}
+use Rattle.settling.specs.declared.Missed.TheVariants.{Coasts, Dropped}
+use mathlib.Core.Path.{◌≡◌, refl}
+use Rattle.walk.specs.Table.{coasted_one, dropped_one}
+use borrow.Author.Tests.{eq-eqb, ne_eqb}
+use native.Mathlib.Omega.{arith}
+use Rattle.walk.proofs.missed_one.Goals as goal
+
+pub returns-then-number-ne-NONE : goal.returns-then-number-ne-NONE
+returns-then-number-ne-NONE c = rw (ne_eqb _ _ c.if-number-ne-NONE.true) ((refl, omega arith), (refl, omega arith))
+
+pub without_pair-outcome-requires : goal.without_pair-outcome-requires
+without_pair-outcome-requires c = record { settleable = rw c.unpack.ensures c.requires.settleable; s_lt_sectors = c.requires.sector_lt_sectors }
+
+pub returns-in-Coasts : goal.returns-in-Coasts
+unfolding coasted_one dropped_one
+returns-in-Coasts c =
+    let k : without_pair (track_of c.args.slot) c.args.sector ≡ Coasts c.enum_told-1.given.0.0 = cc in
+    rw (eq-eqb _ _ c.if-number-ne-NONE.false, k) ((refl, omega arith), (refl, omega arith))
+
+pub returns-in-Dropped : goal.returns-in-Dropped
+unfolding coasted_one dropped_one
+returns-in-Dropped c =
+    let k : without_pair (track_of c.args.slot) c.args.sector ≡ Dropped = cc in
+    rw (eq-eqb _ _ c.if-number-ne-NONE.false, k) ((refl, omega arith), (refl, omega arith))
