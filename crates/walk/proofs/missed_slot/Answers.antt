@@ -11,12 +11,12 @@ without_pair-outcome-requires c = record { settleable = rw c.unpack.ensures (set
 
 pub pack-requires : goal.pack-requires
 pack-requires c =
-    let k : without_pair (track_of c.args.slot) c.args.sector ≡ Coasts c.outcome-1.given.0.0 = cc in
+    let k : without_pair (track_of c.args.slot) c.args.sector ≡ Coasts c.in-Coasts.t = cc in
     speeds_fit (coasted_served _ _ _ c.requires.sector_lt_sectors c.requires.well_formed k).well
 
 pub returns-in-Coasts : goal.returns-in-Coasts
 returns-in-Coasts c =
-    let k : without_pair (track_of c.args.slot) c.args.sector ≡ Coasts c.outcome-1.given.0.0 = cc in
+    let k : without_pair (track_of c.args.slot) c.args.sector ≡ Coasts c.in-Coasts.t = cc in
     c.pack.ensures ∙ sym (missed_kept _ _ _ k)
 
 pub returns-in-Dropped : goal.returns-in-Dropped

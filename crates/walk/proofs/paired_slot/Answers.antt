@@ -7,7 +7,7 @@ use Rattle.settling.proofs.HandedOn.{updated_served}
 use Rattle.walk.proofs.paired_slot.Goals as goal
 
 pub updated-requires : goal.updated-requires
-updated-requires c = rw (c.unpack_report-p.ensures, c.unpack-t.ensures) (c.requires.settleable, c.requires.sound, c.requires.sector_lt_sectors)
+updated-requires c = rw (c.unpack_report-p.ensures, c.unpack-t.ensures) (record { settleable = c.requires.settleable; sound = c.requires.sound; s_lt_sectors = c.requires.sector_lt_sectors })
 
 pub pack-requires : goal.pack-requires
 pack-requires c =

@@ -6,7 +6,7 @@ use Rattle.walk.specs.Table.{settled_slot}
 use Rattle.walk.proofs.settle_due.Given as goal
 
 abbrev pub invariant-loop-rank : goal.invariant-loop-rank
-invariant-loop-rank l = Placed [] l.due (λ l.rank. settled_slot l.sector l.batch l.pairing (get_or l.initial.table (get_or l.due l.rank 0) []) l.rank) l.initial.table l.table l.rank
+invariant-loop-rank l = Placed [] l.due (λ rank. settled_slot l.sector l.batch l.pairing (get_or l.initial.table (get_or l.due rank 0) []) rank) l.initial.table l.table l.rank
 
 abbrev pub decreases-loop-rank : goal.decreases-loop-rank
 decreases-loop-rank l = length l.due - l.rank

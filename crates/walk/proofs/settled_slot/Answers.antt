@@ -28,9 +28,6 @@ pub returns-then-number : goal.returns-then-number
 unfolding settled_slot
 returns-then-number c = rw (sym c.slot_due.ensures ∙ c.if-not-slot_due.false, eq-eqb _ _ c.if-number.true) c.missed_slot.ensures
 
-pub overflow_cast-j : goal.overflow_cast-j
-overflow_cast-j c = omega (arith, c.shared_slice_known-2-1.given c.args.rank)
-
 pub offset_bounds-batch-j : goal.offset_bounds-batch-j
 offset_bounds-batch-j c =
     omega (arith, c.requires.there (sym c.slot_due.ensures ∙ c.if-not-slot_due.false) c.if-number.false)
