@@ -15,7 +15,7 @@ use Rattle.walk.specs.Ready.{TableReady}
 use Rattle.fates.specs.Fates.{handed, Tellable, started_table, fates_of, slots_of, shown_of}
 use Rattle.fates.proofs.Answers.{fates_taken}
 use Rattle.sector.specs.declared.Counts.{Counts}
-use Rattle.sector.specs.sum.{Summable}
+use Rattle.sector.specs.Sum.{Summable}
 use Rattle.sector.specs.Steps.{PairedUp}
 use Rattle.sector.specs.Serve.{reports_in, fates_in, tally, counts_of}
 use Rattle.sector.specs.Settled.{SettledAs}

@@ -9,7 +9,7 @@ use lib.ListN.{length}
 use Rattle.laws.proofs.Sums.{row_in}
 use Rattle.laws.specs.Lists.{at}
 use Rattle.matching.specs.Pairing.{none, score_end, most_tracks, most_reports, sheet_of, score_or}
-use Rattle.sector.specs.sum.{Summable}
+use Rattle.sector.specs.Sum.{Summable}
 
 -- the cell of a pair
 pub record PairCell (reports : ℕ) (sheet pairing : List ℕ) (track : ℕ) : Type 0 where

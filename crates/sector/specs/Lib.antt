@@ -1,5 +1,5 @@
 -- The sector call.
-pub mod sum
+pub mod Sum
 pub mod Steps
 pub mod Serve
 pub mod Settled

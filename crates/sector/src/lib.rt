@@ -10,7 +10,7 @@ ghost use Rattle.sector.specs.Serve.{lent, rooms, tally, ServedWith, ServesSecto
 ghost use Rattle.laws.specs.Lists.{at};
 ghost use Rattle.laws.specs.Tests.{holds};
 ghost use Rattle.matching.specs.Pairing.{score_end, sheet_of, score_or, sum_of_scores};
-ghost use Rattle.sector.specs.sum.{Summable};
+ghost use Rattle.sector.specs.Sum.{Summable};
 
 use matching::index;
 use records::Site;

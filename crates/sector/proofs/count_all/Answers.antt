@@ -1,0 +1,6 @@
+use Rattle.sector.specs.Serve.{tally}
+use Rattle.sector.proofs.count_all.Goals as goal
+
+pub returns : goal.returns
+unfolding tally
+returns c = rw (c.count_fate.ensures, c.count_fate-2.ensures, c.count_fate-3.ensures, c.count_fate-4.ensures)

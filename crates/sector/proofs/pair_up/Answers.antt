@@ -1,0 +1,10 @@
+use Rattle.sector.proofs.Choosing.{rows_room, paired_off}
+use Rattle.sector.proofs.pair_up.Goals as goal
+
+pub fill_rows-requires : goal.fill_rows-requires
+fill_rows-requires c =
+    record { ready = c.requires.ready; rows_ready = rows_room _ _ _ _ _ _ c.requires.ready c.requires.pairable }
+
+pub returns : goal.returns
+returns c =
+    paired_off _ _ _ _ _ _ c.requires.ready c.requires.pairable _ _ _ _ _ c.fill_rows.ensures c.pair_sheet.auto.pairing c.pair_sheet.auto.prices c.pair_sheet.ensures
