@@ -7,7 +7,7 @@ use borrow.Author.Tests.{ltb-true, ltb-false, eqb-true, eqb-false}
 use lib.Dec.{eqb, ltb}
 use lib.ListN.{length, get_or, set, length-set}
 use lib.Seq.{get_or-set_same, get_or-set_other, set_out}
-use Rattle.laws.specs.Lists.{at, after_all, numbers}
+use Rattle.laws.specs.Lists.{after_all, numbers}
 use Rattle.laws.proofs.Search.{first_found}
 use Rattle.laws.proofs.Tests.{clash}
 use Rattle.numbers.specs.Scales.{turn, sectors}

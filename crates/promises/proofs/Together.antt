@@ -24,7 +24,7 @@ use Rattle.scoresheet.specs.Cells.{cells_of, tracks_of, reports_of, sector_sheet
 use Rattle.scoresheet.specs.Call.{cell_room, sheeted_by, sheet_by, sheeted_of, sheet_after}
 use Rattle.scoresheet.proofs.SheetLaws.{cells_length, sheet_in_range}
 use Rattle.sector.specs.declared.Served.{Served}
-use Rattle.sector.specs.declared.Served.TheVariants.{Refused, Done}
+use Rattle.sector.specs.declared.Served.TheVariants.{Done}
 use Rattle.sector.specs.Serve.{Lent, sector_refusal, Chosen, Choice, counts_of, after_of, ServesSector}
 use Rattle.sector.proofs.Answering.{done_by}
 use Rattle.promises.specs.Words.{first_of, RoomToPair, Together, RefusedAlike}

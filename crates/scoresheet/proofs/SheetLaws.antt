@@ -11,7 +11,6 @@ use Rattle.scoring.specs.declared.Scored.{Scored}
 use Rattle.scoring.specs.declared.Scored.TheVariants.{NotAdmissible, Score}
 use Rattle.scoring.specs.Score.{digits_end, score_of}
 use Rattle.scoring.proofs.ScoreLaws.{score_below}
-use Rattle.laws.specs.Lists.{at}
 use Rattle.matching.specs.Pairing.{none, score_end, InRange}
 use Rattle.intake.specs.Refusals.{Input, due_slots, Ready}
 use Rattle.scoresheet.specs.Cells.{cell_of, pair_cell, row_of, rows_of, cells_of, tracks_of, reports_of, due_track, sector_sheet}

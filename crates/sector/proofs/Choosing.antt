@@ -4,7 +4,6 @@ use mathlib.Core.Path.{◌≡◌, sym, ap, ◌∙◌}
 use mathlib.Core.List.{List, ◌++◌}
 use native.Mathlib.Nat.{le_of_eq, le_refl}
 use lib.ListN.{length, drop}
-use Rattle.laws.specs.Lists.{at}
 use Rattle.matching.specs.Answer.{Sizes, sheet_refusal}
 use Rattle.matching.proofs.Theorems.{ready_is_not_refused, zero_certificate}
 use Rattle.engine.specs.declared.Paired.{Paired}

@@ -1,6 +1,5 @@
 use Rattle.queue.proofs.Rise.{good_len, good_at}
 use borrow.Author.Count.{below_none, below_more}
-use Prim.Native.Nat.{◌-◌}
 use native.Mathlib.Omega.{arith}
 use borrow.Author.Rules.{rules}
 use Rattle.engine.proofs.assign.Goals as goal

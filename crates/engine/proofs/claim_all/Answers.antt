@@ -1,5 +1,4 @@
 use Rattle.queue.proofs.Rise.{good_len, good_at}
-use Prim.Native.Nat.{◌-◌}
 use borrow.Author.Rules.{rules}
 use native.Mathlib.Omega.{arith}
 use Rattle.engine.proofs.claim_all.Goals as goal

@@ -1,4 +1,3 @@
-use Prim.Native.Nat.{◌-◌}
 use native.Mathlib.Omega.{arith}
 use lib.Seq.{length-take-le, get_or-take}
 use Rattle.laws.proofs.Search.{counted_none, counted_more, counted_end}

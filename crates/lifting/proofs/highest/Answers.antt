@@ -2,7 +2,6 @@ use Rattle.laws.proofs.Stores.{le_or_lt}
 use mathlib.Core.Logic.{⊎_elim}
 use Rattle.laws.specs.Lists.{at}
 use borrow.Author.Count.{below_none, below_more}
-use Prim.Native.Nat.{◌-◌}
 use native.Mathlib.Omega.{arith}
 use borrow.Author.Rules.{rules}
 use Rattle.lifting.proofs.highest.Goals as goal

@@ -1,5 +1,4 @@
 use borrow.Author.Count.{below_none, below_more}
-use Prim.Native.Nat.{◌-◌}
 use native.Mathlib.Omega.{arith}
 use borrow.Author.Rules.{rules}
 use Rattle.lifting.proofs.least_slack.Goals as goal

@@ -1,6 +1,5 @@
 use Rattle.laws.proofs.Stores.{le_or_lt}
 use mathlib.Core.Logic.{⊎_elim}
-use Prim.Native.Nat.{◌-◌}
 use native.Mathlib.Omega.{arith}
 use native.Mathlib.Nat.{add-sub_cancel}
 use borrow.Author.Rules.{rules}

@@ -3,7 +3,7 @@ use Rattle.laws.specs.Lists.{at}
 use borrow.Author.Count.{below_none}
 use lib.ListN.{length, length-set}
 use mathlib.Core.Path.{◌≡◌, refl}
-use Prim.Native.Nat.{ℕ, ◌+◌, ◌<◌, ◌-◌}
+use Prim.Native.Nat.{ℕ, ◌+◌, ◌<◌}
 use native.Mathlib.Omega.{arith}
 use borrow.Author.Rules.{rules}
 use Rattle.matching.specs.Pairing.{none}

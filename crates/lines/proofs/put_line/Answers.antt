@@ -1,5 +1,4 @@
 use Rattle.lines.proofs.Numerals.{line_short}
-use Prim.Native.Nat.{◌-◌}
 use native.Mathlib.Omega.{arith}
 use Rattle.lines.proofs.Writing.{lining_none, lining_room, lining_more, lining_end}
 use Rattle.lines.proofs.put_line.Goals as goal

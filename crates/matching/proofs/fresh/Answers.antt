@@ -1,4 +1,3 @@
-use Prim.Native.Nat.{◌-◌}
 use mathlib.Core.Path.{sym}
 use borrow.Author.Rules.{rules}
 use borrow.Author.Tests.{ne_eqb, eq-eqb}

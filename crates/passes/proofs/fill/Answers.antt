@@ -1,5 +1,5 @@
 use mathlib.Core.Path.{refl, ◌≡◌}
-use Prim.Native.Nat.{ℕ, ◌-◌}
+use Prim.Native.Nat.{ℕ}
 use lib.ListN.{length-set}
 use Rattle.laws.proofs.Stores.{upd}
 use borrow.Author.Rules.{rules}

@@ -1,5 +1,4 @@
 use borrow.Author.Count.{below_more}
-use Prim.Native.Nat.{◌-◌}
 use borrow.Author.Rules.{rules}
 use native.Mathlib.Omega.{arith}
 use Rattle.passes.proofs.first_at.Goals as goal

@@ -1,6 +1,5 @@
 use Rattle.laws.proofs.Stores.{le_or_lt}
 use mathlib.Core.Logic.{⊎_elim}
-use Prim.Native.Nat.{◌-◌}
 use native.Mathlib.Omega.{arith}
 use borrow.Author.Rules.{rules}
 use Rattle.passes.proofs.first_free.Goals as goal

@@ -1,8 +1,8 @@
 use Rattle.laws.proofs.Stores.{le_or_lt}
 use borrow.Author.Count.{below_none, below_more}
 use mathlib.Core.Path.{refl}
-use mathlib.Core.Logic.{◌⊎◌, inl, inr, ⊎_elim}
-use Prim.Native.Nat.{◌+◌, ◌<◌, ◌-◌, ◌^◌}
+use mathlib.Core.Logic.{inl, inr, ⊎_elim}
+use Prim.Native.Nat.{◌+◌, ◌<◌, ◌^◌}
 use Rattle.laws.specs.Lists.{at}
 use borrow.Author.Rules.{rules}
 use native.Mathlib.Omega.{arith}

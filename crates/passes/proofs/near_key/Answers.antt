@@ -3,7 +3,7 @@ use Rattle.passes.specs.Cells.{key_places}
 use Rattle.passes.proofs.Keys.{near_low, near_here, near_met}
 use borrow.Author.Count.{below_none, below_more}
 use mathlib.Core.Logic.{⊎_elim}
-use Prim.Native.Nat.{◌<◌, ◌-◌}
+use Prim.Native.Nat.{◌<◌}
 use native.Mathlib.Omega.{arith}
 use borrow.Author.Rules.{rules}
 use Rattle.passes.proofs.near_key.Goals as goal

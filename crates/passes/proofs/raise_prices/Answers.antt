@@ -1,7 +1,6 @@
 use Rattle.passes.proofs.Raise.{may, raised}
 use borrow.Author.Rules.{rules}
 use mathlib.Core.Path.{refl, ◌∙◌}
-use Prim.Native.Nat.{◌-◌}
 use native.Mathlib.Omega.{arith}
 use Rattle.passes.proofs.raise_prices.Goals as goal
 

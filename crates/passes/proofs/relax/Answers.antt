@@ -1,6 +1,6 @@
 use Rattle.passes.proofs.Offers.{step}
 use borrow.Author.Count.{below_none}
-use Prim.Native.Nat.{ℕ, ◌<◌, ◌-◌, ◌^◌}
+use Prim.Native.Nat.{ℕ, ◌<◌, ◌^◌}
 use mathlib.Core.Path.{◌≡◌, refl}
 use lib.ListN.{length, length-set}
 use Rattle.laws.specs.Lists.{at}

@@ -2,8 +2,7 @@ use Rattle.laws.proofs.Stores.{le_or_lt}
 use borrow.Author.Count.{below_none, below_more}
 use borrow.Author.Rules.{rules}
 use mathlib.Core.Path.{refl}
-use mathlib.Core.Logic.{◌⊎◌, inl, inr, ⊎_elim}
-use Prim.Native.Nat.{◌-◌}
+use mathlib.Core.Logic.{inl, inr, ⊎_elim}
 use native.Mathlib.Omega.{arith}
 use Rattle.passes.proofs.row_key.Goals as goal
 

@@ -1,5 +1,4 @@
 use native.Mathlib.Omega.{arith}
-use Prim.Native.Nat.{◌-◌}
 use mathlib.Core.Path.{sym, ◌∙◌}
 use Rattle.paths.proofs.Growth.{endable, ended}
 use Rattle.paths.proofs.search.Goals as goal

@@ -1,5 +1,4 @@
 use Rattle.queue.proofs.Rise.{good_at, good_len, to_search}
-use Prim.Native.Nat.{◌-◌}
 use native.Mathlib.Omega.{arith}
 use borrow.Author.Rules.{rules}
 use Rattle.queue.proofs.first_inserts.Goals as goal

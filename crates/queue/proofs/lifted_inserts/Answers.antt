@@ -1,6 +1,5 @@
 use Rattle.queue.proofs.Rise.{lifting_at}
 use mathlib.Core.Path.{sym}
-use Prim.Native.Nat.{◌-◌}
 use native.Mathlib.Omega.{arith}
 use borrow.Author.Rules.{rules}
 use Rattle.queue.proofs.lifted_inserts.Goals as goal

@@ -1,5 +1,4 @@
 use Rattle.records.specs.Fields.{Sound}
-use Prim.Native.Nat.{◌-◌}
 use mathlib.Core.Path.{◌∙◌}
 use mathlib.Core.List.{[]}
 use native.Mathlib.Omega.{arith}

@@ -1,7 +1,6 @@
 use Rattle.records.specs.Fields.{WellFormed}
 use Rattle.scoresheet.specs.Cells.{row_of, cells_of}
 use Rattle.scoresheet.proofs.Rows.{row_part, next_row, row_ready, rows_none, rows_more, rows_end}
-use Prim.Native.Nat.{◌-◌}
 use mathlib.Core.Path.{◌∙◌}
 use native.Mathlib.Omega.{arith}
 use Rattle.scoresheet.proofs.fill_rows.Goals as goal

@@ -1,4 +1,3 @@
-use Prim.Native.Nat.{◌-◌}
 use mathlib.Core.List.{[]}
 use Rattle.laws.proofs.InPlace.{mapped_none, mapped_more, mapped_end}
 use Rattle.walk.proofs.age_table.Goals as goal

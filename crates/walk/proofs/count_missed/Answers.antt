@@ -1,6 +1,5 @@
 use Rattle.walk.proofs.Walks.{missed_none, missed_more, missed_end, next_due}
 use Rattle.walk.specs.Table.{coasted_count, dropped_count}
-use Prim.Native.Nat.{◌-◌}
 use native.Mathlib.Omega.{arith}
 use Rattle.walk.proofs.count_missed.Goals as goal
 

@@ -1,5 +1,4 @@
 use Rattle.walk.proofs.Walks.{next_settled}
-use Prim.Native.Nat.{◌-◌}
 use mathlib.Core.List.{[]}
 use native.Mathlib.Omega.{arith}
 use Rattle.laws.proofs.Places.{placed_none, placed_more, placed_end}
