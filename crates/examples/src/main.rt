@@ -7,52 +7,51 @@ ghost use Rattle.numbers.specs.Scales.{range_most, half_turn, sectors, range_spe
 ghost use Rattle.records.specs.Fields.{confidence_most, quality_most, high_circle, low_circle, Sound};
 ghost use Rattle.settling.specs.Settle.{Settleable};
 
-use libc::STDOUT_FILENO;
 use numbers::Int;
 use records::{Report, Site, Track};
 use scoring::Scored;
+use std::io;
 
 const SIGMA: u8 = 16;
 
 const UPDATES: u8 = 8;
 
-fn line(name: &[u8], value: u64) {
-    io::write_all(STDOUT_FILENO, name);
-    io::print_decimal(STDOUT_FILENO, value);
-    io::write_all(STDOUT_FILENO, b"\n");
+fn line(rt: &HostRuntime, name: &str, value: u64) -> io::Result<()> {
+    println!(rt; "{name}{value}")
 }
 
-fn signed_line(name: &[u8], z: Int)
+fn signed_line(rt: &HostRuntime, name: &str, z: Int) -> io::Result<()>
     requires { nat_abs z.v < int_end }
 {
-    io::write_all(STDOUT_FILENO, name);
-    if z.negative() {
-        io::write_all(STDOUT_FILENO, b"-");
-    }
-    io::print_decimal(STDOUT_FILENO, z.magnitude());
-    io::write_all(STDOUT_FILENO, b"\n");
+    let sign = if z.negative() { "-" } else { "" };
+    let magnitude = z.magnitude();
+    println!(rt; "{name}{sign}{magnitude}")
 }
 
-fn azimuths() {
-    signed_line(b"0 - 65535 = ", numbers::azimuth_difference(0, 65_535));
-    signed_line(b"32768 - 0 = ", numbers::azimuth_difference(32_768, 0));
-    signed_line(b"32767 - 0 = ", numbers::azimuth_difference(32_767, 0));
+fn azimuths(rt: &HostRuntime) -> io::Result<()> {
+    signed_line(rt, "0 - 65535 = ", numbers::azimuth_difference(0, 65_535))?;
+    signed_line(rt, "32768 - 0 = ", numbers::azimuth_difference(32_768, 0))?;
+    signed_line(rt, "32767 - 0 = ", numbers::azimuth_difference(32_767, 0))
 }
 
-fn position_line(name: &[u8], dr: u64, da: u64)
+fn position_line(rt: &HostRuntime, name: &str, dr: u64, da: u64) -> io::Result<()>
     requires { (dr ≤ range_most) × (da ≤ half_turn) }
 {
-    line(name, scoring::position_number(dr, da, SIGMA, SIGMA) as u64);
+    line(
+        rt,
+        name,
+        scoring::position_number(dr, da, SIGMA, SIGMA) as u64,
+    )
 }
 
-fn positions() {
-    position_line(b"S (0,0) = ", 0, 0);
-    position_line(b"S (1,0) = ", 1, 0);
-    position_line(b"S (2,0) = ", 2, 0);
-    position_line(b"S (48,64) = ", 48, 64);
-    position_line(b"S (2041,0) = ", 2_041, 0);
-    position_line(b"S (2042,0) = ", 2_042, 0);
-    position_line(b"S (2046,0) = ", 2_046, 0);
+fn positions(rt: &HostRuntime) -> io::Result<()> {
+    position_line(rt, "S (0,0) = ", 0, 0)?;
+    position_line(rt, "S (1,0) = ", 1, 0)?;
+    position_line(rt, "S (2,0) = ", 2, 0)?;
+    position_line(rt, "S (48,64) = ", 48, 64)?;
+    position_line(rt, "S (2041,0) = ", 2_041, 0)?;
+    position_line(rt, "S (2042,0) = ", 2_042, 0)?;
+    position_line(rt, "S (2046,0) = ", 2_046, 0)
 }
 
 // A track of the best confidence and quality without misses. Reports lie at range 0 and azimuth 0: it is dr and da off them.
@@ -116,95 +115,105 @@ fn score(dr: u32, da: u16, speed: u32, high: u8, low: u8) -> u64
 }
 
 // The zone's digit: inner 3, outer 6, and 0 for a pair that is not admissible.
-fn zone_line(name: &[u8], dr: u32)
+fn zone_line(rt: &HostRuntime, name: &str, dr: u32) -> io::Result<()>
     requires { dr ≤ range_most }
 {
-    line(name, score(dr, 0, 0, 0, 0) / (scoring::ZONE_WORTH as u64));
+    line(
+        rt,
+        name,
+        score(dr, 0, 0, 0, 0) / (scoring::ZONE_WORTH as u64),
+    )
 }
 
-fn zones() {
-    zone_line(b"zone of (64,0) = ", 64);
-    zone_line(b"zone of (65,0) = ", 65);
-    zone_line(b"zone of (128,0) = ", 128);
-    zone_line(b"zone of (129,0) = ", 129);
-    line(b"score of (48,64) = ", score(48, 64, 0, 0, 0));
+fn zones(rt: &HostRuntime) -> io::Result<()> {
+    zone_line(rt, "zone of (64,0) = ", 64)?;
+    zone_line(rt, "zone of (65,0) = ", 65)?;
+    zone_line(rt, "zone of (128,0) = ", 128)?;
+    zone_line(rt, "zone of (129,0) = ", 129)?;
+    line(rt, "score of (48,64) = ", score(48, 64, 0, 0, 0))
 }
 
 // What range speed -300 expects.
-fn expected_line(name: &[u8], circle: u8)
+fn expected_line(rt: &HostRuntime, name: &str, circle: u8) -> io::Result<()>
     requires { 0 < circle }
 {
     line(
+        rt,
         name,
         numbers::remainder(Int::signed(true, 300), circle as u32) as u64,
-    );
+    )
 }
 
 // The Doppler's digit: agree 0, else 1.
-fn doppler_line(name: &[u8], high: u8)
+fn doppler_line(rt: &HostRuntime, name: &str, high: u8) -> io::Result<()>
     requires { high < high_circle }
 {
     line(
+        rt,
         name,
         score(0, 0, 5, high, 5) / (scoring::DOPPLER_WORTH as u64) % 8,
-    );
+    )
 }
 
-fn dopplers() {
-    expected_line(b"speed -300, high = ", records::HIGH_CIRCLE);
-    expected_line(b"speed -300, low = ", records::LOW_CIRCLE);
-    doppler_line(b"speed 5, low 5, high 173: Doppler = ", 173);
-    doppler_line(b"speed 5, low 5, high 172: Doppler = ", 172);
+fn dopplers(rt: &HostRuntime) -> io::Result<()> {
+    expected_line(rt, "speed -300, high = ", records::HIGH_CIRCLE)?;
+    expected_line(rt, "speed -300, low = ", records::LOW_CIRCLE)?;
+    doppler_line(rt, "speed 5, low 5, high 173: Doppler = ", 173)?;
+    doppler_line(rt, "speed 5, low 5, high 172: Doppler = ", 172)
 }
 
-fn corrections() {
+fn corrections(rt: &HostRuntime) -> io::Result<()> {
     signed_line(
-        b"b 3, D 5, f 1 = ",
+        rt,
+        "b 3, D 5, f 1 = ",
         settling::speed_correction(Int::signed(false, 5), 3, 1),
-    );
+    )?;
     signed_line(
-        b"b 3, D -5, f 1 = ",
+        rt,
+        "b 3, D -5, f 1 = ",
         settling::speed_correction(Int::signed(true, 5), 3, 1),
-    );
+    )
 }
 
-fn price_line(name: &[u8], price: u32) {
-    line(name, price as u64);
+fn price_line(rt: &HostRuntime, name: &str, price: u32) -> io::Result<()> {
+    line(rt, name, price as u64)
 }
 
 // The check answers 0 where it passes, which asks that the total is all prices less all discounts.
-fn pairings() {
+fn pairings(rt: &HostRuntime) -> io::Result<()> {
     let sheet = [10, 20, 12, matching::NONE];
     let crossed = [1, 0];
     let prices = [20, 22];
     let discounts = [10, 0];
     line(
-        b"scores 10 20, 12 none; total 32; prices 20 22; discounts 10 0: check = ",
+        rt,
+        "scores 10 20, 12 none; total 32; prices 20 22; discounts 10 0: check = ",
         matching::check_pairing(2, 2, &sheet, &crossed, &prices, &discounts) as u64,
-    );
+    )?;
     let mut left_out = [0];
     let mut price = [0];
     let mut no_discounts = [];
     engine::pair_sheet(1, 0, &[], &mut left_out, &mut price, &mut no_discounts);
-    price_line(b"one track, no report: price = ", price[0]);
+    price_line(rt, "one track, no report: price = ", price[0])?;
     line(
-        b"one track, no report: check = ",
+        rt,
+        "one track, no report: check = ",
         matching::check_pairing(1, 0, &[], &left_out, &price, &[]) as u64,
-    );
+    )
 }
 
 // j of a track that is served in sector 0.
-fn wait_line(name: &[u8], predicted: u8)
+fn wait_line(rt: &HostRuntime, name: &str, predicted: u8) -> io::Result<()>
     requires { predicted < sectors }
 {
-    line(name, numbers::calls_ahead(0, predicted) as u64);
+    line(rt, name, numbers::calls_ahead(0, predicted) as u64)
 }
 
-fn waits() {
-    wait_line(b"sector 0 to 15: j = ", 15);
-    wait_line(b"sector 0 to 16: j = ", 16);
-    wait_line(b"sector 0 to 31: j = ", 31);
-    wait_line(b"sector 0 to 0: j = ", 0);
+fn waits(rt: &HostRuntime) -> io::Result<()> {
+    wait_line(rt, "sector 0 to 15: j = ", 15)?;
+    wait_line(rt, "sector 0 to 16: j = ", 16)?;
+    wait_line(rt, "sector 0 to 31: j = ", 31)?;
+    wait_line(rt, "sector 0 to 0: j = ", 0)
 }
 
 // Which of the two gains, both in tenths: of the prediction or of the speed.
@@ -225,47 +234,49 @@ fn gain(of: Coefficient, updates: u8, confidence: u8, quality: u8, azimuth_degra
     }
 }
 
-fn gain_row(name: &[u8], of: Coefficient, quality: u8)
+fn gain_row(rt: &HostRuntime, name: &str, of: Coefficient, quality: u8) -> io::Result<()>
     requires { quality ≤ quality_most }
 {
-    io::write_all(STDOUT_FILENO, name);
+    print!(rt; "{name}")?;
     let mut confidence: u8 = 0;
     while confidence <= records::CONFIDENCE_MOST {
-        io::write_all(STDOUT_FILENO, b" ");
-        io::print_decimal(STDOUT_FILENO, gain(of, UPDATES, confidence, quality, 0));
+        let tenths = gain(of, UPDATES, confidence, quality, 0);
+        print!(rt; " {tenths}")?;
         confidence += 1;
     }
-    io::write_all(STDOUT_FILENO, b"\n");
+    println!(rt)
 }
 
-fn gains() {
-    gain_row(b"a, quality 0 =", Coefficient::A, 0);
-    gain_row(b"a, quality 1 =", Coefficient::A, 1);
-    gain_row(b"a, quality 2 =", Coefficient::A, 2);
-    gain_row(b"a, quality 3 =", Coefficient::A, 3);
-    gain_row(b"b, quality 0 =", Coefficient::B, 0);
-    gain_row(b"b, quality 1 =", Coefficient::B, 1);
-    gain_row(b"b, quality 2 =", Coefficient::B, 2);
-    gain_row(b"b, quality 3 =", Coefficient::B, 3);
+fn gains(rt: &HostRuntime) -> io::Result<()> {
+    gain_row(rt, "a, quality 0 =", Coefficient::A, 0)?;
+    gain_row(rt, "a, quality 1 =", Coefficient::A, 1)?;
+    gain_row(rt, "a, quality 2 =", Coefficient::A, 2)?;
+    gain_row(rt, "a, quality 3 =", Coefficient::A, 3)?;
+    gain_row(rt, "b, quality 0 =", Coefficient::B, 0)?;
+    gain_row(rt, "b, quality 1 =", Coefficient::B, 1)?;
+    gain_row(rt, "b, quality 2 =", Coefficient::B, 2)?;
+    gain_row(rt, "b, quality 3 =", Coefficient::B, 3)?;
     line(
-        b"a, azimuth-degrade 1 = ",
+        rt,
+        "a, azimuth-degrade 1 = ",
         gain(Coefficient::A, UPDATES, 7, 3, 1),
-    );
+    )?;
     line(
-        b"b, azimuth-degrade 1 = ",
+        rt,
+        "b, azimuth-degrade 1 = ",
         gain(Coefficient::B, UPDATES, 7, 3, 1),
-    );
-    line(b"a, updates 1 = ", gain(Coefficient::A, 1, 0, 0, 1));
-    line(b"b, updates 1 = ", gain(Coefficient::B, 1, 0, 0, 1));
+    )?;
+    line(rt, "a, updates 1 = ", gain(Coefficient::A, 1, 0, 0, 1))?;
+    line(rt, "b, updates 1 = ", gain(Coefficient::B, 1, 0, 0, 1))
 }
 
-fn main() {
-    azimuths();
-    positions();
-    zones();
-    dopplers();
-    corrections();
-    pairings();
-    waits();
-    gains();
+fn main(rt: HostRuntime) -> io::Result<()> {
+    azimuths(&rt)?;
+    positions(&rt)?;
+    zones(&rt)?;
+    dopplers(&rt)?;
+    corrections(&rt)?;
+    pairings(&rt)?;
+    waits(&rt)?;
+    gains(&rt)
 }

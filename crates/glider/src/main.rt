@@ -9,9 +9,9 @@ ghost use Rattle.glider.specs.Nearest.{score_in, nearer_of, nearest_of, nearest_
 ghost use Rattle.glider.specs.Scene.{track_at, return_at, table, batch, site, cells, lost, kept, both_shown};
 ghost use Rattle.matching.specs.Pairing.{most_reports};
 
-use libc::STDOUT_FILENO;
 use matching::{NONE, index};
 use records::{Report, Site, Track};
+use std::io;
 
 const TRACKS: usize = 2;
 
@@ -227,38 +227,37 @@ fn marks() -> [u8; REPORTS]
     shown
 }
 
-fn write(text: &[u8]) {
-    io::write_all(STDOUT_FILENO, text);
+fn write(rt: &HostRuntime, text: &str) -> io::Result<()> {
+    print!(rt; "{text}")
 }
 
-fn write_return(report: u32) {
+fn write_return(rt: &HostRuntime, report: u32) -> io::Result<()> {
     match report {
-        RIDGE => write(b"the ridge's return"),
-        GLIDER => write(b"the glider's return"),
-        _ => write(b"nothing"),
+        RIDGE => write(rt, "the ridge's return"),
+        GLIDER => write(rt, "the glider's return"),
+        _ => write(rt, "nothing"),
     }
 }
 
-fn tell(who: &[u8], pairing: [u32; TRACKS]) {
-    write(who);
-    write(b": the ridge's track takes ");
-    write_return(pairing[0]);
-    write(b", the glider's track takes ");
-    write_return(pairing[1]);
-    write(b"\n");
+fn tell(rt: &HostRuntime, who: &str, pairing: [u32; TRACKS]) -> io::Result<()> {
+    write(rt, who)?;
+    write(rt, ": the ridge's track takes ")?;
+    write_return(rt, pairing[0])?;
+    write(rt, ", the glider's track takes ")?;
+    write_return(rt, pairing[1])?;
+    write(rt, "\n")
 }
 
-fn tell_shown(mark: u8) {
+fn tell_shown(rt: &HostRuntime, mark: u8) -> io::Result<()> {
     if mark == 0 {
-        write(b"the glider is not shown\n");
-        return;
+        return write(rt, "the glider is not shown\n");
     }
-    write(b"the glider is shown\n");
+    write(rt, "the glider is shown\n")
 }
 
-fn main() {
-    tell(b"old filter", old_filter());
-    tell(b"ours", ours());
+fn main(rt: HostRuntime) -> io::Result<()> {
+    tell(&rt, "old filter", old_filter())?;
+    tell(&rt, "ours", ours())?;
     let shown = marks();
-    tell_shown(shown[1]);
+    tell_shown(&rt, shown[1])
 }

@@ -1,6 +1,6 @@
 // Runs a file of batches: reads standard input and prints what came of it.
 #![tactic(auto)]
 
-fn main() {
-    batchrun::run_file();
+fn main(rt: HostRuntime) {
+    batchrun::run_file(&rt);
 }

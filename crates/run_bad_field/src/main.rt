@@ -1,6 +1,6 @@
 // The batch program on a report with a bad field behind one of another sector: refusal 6 comes first.
 #![tactic(auto)]
 
-fn main() {
-    batchrun::run_file();
+fn main(rt: HostRuntime) {
+    batchrun::run_file(&rt);
 }

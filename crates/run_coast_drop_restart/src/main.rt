@@ -1,6 +1,6 @@
 // The batch program on tracks that coast, are dropped and start again, with and without a line of their own.
 #![tactic(auto)]
 
-fn main() {
-    batchrun::run_file();
+fn main(rt: HostRuntime) {
+    batchrun::run_file(&rt);
 }

@@ -1,6 +1,6 @@
 // The batch program on a file that stops between two reports of a batch.
 #![tactic(auto)]
 
-fn main() {
-    batchrun::run_file();
+fn main(rt: HostRuntime) {
+    batchrun::run_file(&rt);
 }

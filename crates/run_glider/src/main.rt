@@ -1,6 +1,6 @@
 // The batch program on the demo: a ridge, and a glider that crosses close by.
 #![tactic(auto)]
 
-fn main() {
-    batchrun::run_file();
+fn main(rt: HostRuntime) {
+    batchrun::run_file(&rt);
 }

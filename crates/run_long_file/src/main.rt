@@ -1,6 +1,6 @@
 // The batch program on a file longer than its buffers: batches and lines lie across their ends.
 #![tactic(auto)]
 
-fn main() {
-    batchrun::run_file();
+fn main(rt: HostRuntime) {
+    batchrun::run_file(&rt);
 }

@@ -1,6 +1,6 @@
 // The batch program on aircraft that cross north between turns, both ways.
 #![tactic(auto)]
 
-fn main() {
-    batchrun::run_file();
+fn main(rt: HostRuntime) {
+    batchrun::run_file(&rt);
 }

@@ -1,6 +1,6 @@
 // The batch program on 120 tracks due in one sector: refusal 8, for an empty batch too.
 #![tactic(auto)]
 
-fn main() {
-    batchrun::run_file();
+fn main(rt: HostRuntime) {
+    batchrun::run_file(&rt);
 }

@@ -1,6 +1,6 @@
 // The batch program on 101 reports in one batch, one of them with a bad field: refusal 5 comes first.
 #![tactic(auto)]
 
-fn main() {
-    batchrun::run_file();
+fn main(rt: HostRuntime) {
+    batchrun::run_file(&rt);
 }

@@ -1,6 +1,6 @@
 // The batch program on a file of six bytes: a header one byte short.
 #![tactic(auto)]
 
-fn main() {
-    batchrun::run_file();
+fn main(rt: HostRuntime) {
+    batchrun::run_file(&rt);
 }

@@ -1,6 +1,6 @@
 // The batch program on more reports than slots, and slots freed and taken again in one call.
 #![tactic(auto)]
 
-fn main() {
-    batchrun::run_file();
+fn main(rt: HostRuntime) {
+    batchrun::run_file(&rt);
 }

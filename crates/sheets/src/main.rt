@@ -5,8 +5,8 @@
 ghost use Rattle.std.specs.Prelude.{◌≡◌, ◌+◌, ◌-◌, ◌*◌, ◌^◌, ◌<◌, ◌≤◌, length};
 ghost use Rattle.matching.specs.Pairing.{most_tracks, most_reports};
 
-use libc::STDOUT_FILENO;
 use matching::{ACCEPTED, LEFT_OUT, MOST_REPORTS, MOST_TRACKS, NONE, SCORE_END, index, wide};
+use std::io;
 
 const SIZES: usize = 6;
 
@@ -282,30 +282,29 @@ fn wide_sheets(family: u32) -> Tally {
     tally
 }
 
-fn number(n: u64) {
-    io::write_all(STDOUT_FILENO, b" ");
-    io::print_decimal(STDOUT_FILENO, n);
+fn number(rt: &HostRuntime, n: u64) -> io::Result<()> {
+    print!(rt; " {n}")
 }
 
-fn line(name: &[u8], t: Tally) {
-    io::write_all(STDOUT_FILENO, name);
-    number(t.sheets);
-    number(t.accepted);
-    number(t.agreed);
-    number(t.pairs);
-    number(t.scores);
-    io::write_all(STDOUT_FILENO, b"\n");
+fn line(rt: &HostRuntime, name: &str, t: Tally) -> io::Result<()> {
+    print!(rt; "{name}")?;
+    number(rt, t.sheets)?;
+    number(rt, t.accepted)?;
+    number(rt, t.agreed)?;
+    number(rt, t.pairs)?;
+    number(rt, t.scores)?;
+    println!(rt)
 }
 
-fn main() {
-    line(b"ties and zeros", small_sheets(0));
-    line(b"rows with nothing", small_sheets(1));
-    line(b"one in eight", small_sheets(2));
-    line(b"products", small_sheets(3));
-    line(b"all admissible", small_sheets(4));
-    line(b"wide, ties and zeros", wide_sheets(0));
-    line(b"wide, rows with nothing", wide_sheets(1));
-    line(b"wide, one in eight", wide_sheets(2));
-    line(b"wide, products", wide_sheets(3));
-    line(b"wide, all admissible", wide_sheets(4));
+fn main(rt: HostRuntime) -> io::Result<()> {
+    line(&rt, "ties and zeros", small_sheets(0))?;
+    line(&rt, "rows with nothing", small_sheets(1))?;
+    line(&rt, "one in eight", small_sheets(2))?;
+    line(&rt, "products", small_sheets(3))?;
+    line(&rt, "all admissible", small_sheets(4))?;
+    line(&rt, "wide, ties and zeros", wide_sheets(0))?;
+    line(&rt, "wide, rows with nothing", wide_sheets(1))?;
+    line(&rt, "wide, one in eight", wide_sheets(2))?;
+    line(&rt, "wide, products", wide_sheets(3))?;
+    line(&rt, "wide, all admissible", wide_sheets(4))
 }
