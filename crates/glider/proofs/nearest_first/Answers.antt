@@ -2,7 +2,7 @@ use Rattle.glider.specs.Nearest.{nearest_of, nearest_for, taken_after, nearest_f
 use lib.ListN.{set, length-set, length}
 use mathlib.Core.Bool.{true}
 use mathlib.Core.Path.{refl, ap, ◌∙◌}
-use Prim.Native.Nat.{ℕ, ◌-◌, ◌≤◌, ◌<◌}
+use Prim.Native.Nat.{ℕ, ◌≤◌, ◌<◌}
 use native.Mathlib.Omega.{arith}
 use mathlib.Core.List.{List, append-nil}
 use lib.Seq.{drop-length}
@@ -15,17 +15,17 @@ pub loop-track-init : goal.loop-track-init
 loop-track-init c = record { upto = omega arith; marks = refl; so = answered_none _ _ _ _ _ }
 
 pub overflow_mul-from : goal.overflow_mul-from
-overflow_mul-from c = 
+overflow_mul-from c =
     let h : c.loop-track.track < length c.args.pairing.now = omega (arith, c.loop-track.invariant.so.so.same) in
     omega (arith, row_room c.requires h)
 
 pub overflow_add-to : goal.overflow_add-to
-overflow_add-to c = 
+overflow_add-to c =
     let h : c.loop-track.track < length c.args.pairing.now = omega (arith, c.loop-track.invariant.so.so.same) in
     omega (arith, row_room c.requires h)
 
 pub offset_bounds-sheet-from : goal.offset_bounds-sheet-from
-offset_bounds-sheet-from c = 
+offset_bounds-sheet-from c =
     let h : c.loop-track.track < length c.args.pairing.now = omega (arith, c.loop-track.invariant.so.so.same) in
     omega (arith, row_room c.requires h)
 

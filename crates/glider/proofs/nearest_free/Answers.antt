@@ -1,4 +1,3 @@
-use Prim.Native.Nat.{◌-◌}
 use Rattle.laws.proofs.Fold.{stepped_none}
 use Rattle.laws.proofs.Rounds.{round_more, round_end}
 use Rattle.glider.specs.Nearest.{nearest_of}
