@@ -11,11 +11,11 @@ fn main() {
     }
     let folder = env::var("PLOTUNIT_LIB_DIR").unwrap_or_else(|_| {
         let here = env::var("CARGO_MANIFEST_DIR").expect("cargo names the package's folder");
-        format!("{here}/../target/staticlib")
+        format!("{here}/../crates/plotunit/out")
     });
     let library = Path::new(&folder).join("libplotunit.a");
     if !library.exists() {
-        panic!("{} is not there: run `rt staticlib plotunit` first", library.display());
+        panic!("{} is not there: run `rt lib` in crates/plotunit first", library.display());
     }
     println!("cargo:rerun-if-changed={}", library.display());
     println!("cargo:rustc-link-search=native={folder}");
