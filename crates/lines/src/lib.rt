@@ -37,6 +37,7 @@ fn put_number(out: &mut [u8], place: usize, n: u32) -> usize
 }
 
 // What stands behind a number that so many others follow.
+#[tactic(auto, unfolding(crate::specs::Text::separator_of))]
 fn separator(left: usize) -> u8
     ensures { result ≡ separator_of left }
 {

@@ -8,10 +8,10 @@ use native.Mathlib.Omega.{arith}
 use native.Mathlib.Nat.{ne_of_lt, mul-zero, mod-lt, div-lt_iff_lt-mul, div-add-mod', eq-zero-or-pos, lt_trans}
 use lib.Arith.{digits_lt}
 use lib.Dec.{ltb, eqb}
-use lib.ListN.{length}
-use borrow.Author.Tests.{ltb-true, leb-true, lt-ltb, le-leb, ne_eqb, eqb-false, not-true}
+use lib.ListN.{length, get_or}
+use borrow.Author.Tests.{ltb-true, leb-true, lt-ltb, le-leb, lt-leb, ne_eqb, eqb-false, not-true}
 use Rattle.laws.specs.Tests.{each, refuse}
-use Rattle.laws.proofs.Tests.{and_both, and_left, and_right, or_else, or_second, each_at, each_all, holds_each, all_hold, refuse_none}
+use Rattle.laws.proofs.Tests.{and_both, and_left, and_right, or_else, or_second, each_at, each_all, each_fails, holds_each, all_hold, refuse_none}
 use Rattle.laws.specs.Lists.{at}
 use Rattle.matching.specs.Pairing.{none, score_end, left_out, most_tracks, Sheet, Admissible, InRange, HasReport, ValidPairing, FairPrices, sheet_of}
 use Rattle.matching.specs.Answer.{sizes_ok, Sizes, cell_ok, cells_ok, entry_ok, pairing_ok, numbers_ok, row_ok, scores_ok, sheet_refusal}
@@ -177,3 +177,8 @@ module _ (n m : ℕ) (s : List ℕ) (pairing prices discounts : ℕ) where
   pub ready_passes : Sizes n m (length s) pairing prices discounts → InRange (sheet_of n m s) → (rest : ℕ) → sheet_refusal n m s pairing prices discounts rest ≡ rest
   unfolding sheet_refusal
   ready_passes z r rest = rw (sizes_ok_lem n m (length s) pairing prices discounts z, cells_ok_lem n m s r)
+
+-- a number over the limit is found out
+pub number_over : (xs : List ℕ) (n k : ℕ) → k < n → left_out < get_or xs k 0 → numbers_ok n (at xs) ≡ false
+unfolding numbers_ok
+number_over xs n k h o = each_fails _ k n h (lt-leb _ _ o)

@@ -155,6 +155,7 @@ pub fn held_from_zero(z: Int, most: u32) -> u32
 }
 
 // The remainder that is not negative, for a closing speed too.
+#[tactic(auto, using(crate::proofs::Forms::negative_size, crate::proofs::Forms::remainder_below, crate::proofs::Forms::remainder_up))]
 pub fn remainder(z: Int, m: u32) -> u32
     requires { (unsigned_abs z.v < int_end) × (0 < m) }
     ensures { (result ≡ remainder z.v m) × (result < m) }
@@ -189,6 +190,7 @@ pub fn circular_distance(n: u32, x: u32, y: u32) -> u64
 }
 
 // Sixteen bits as a number with a sign.
+#[tactic(auto, using(crate::proofs::Forms::signed16_low, crate::proofs::Forms::signed16_high))]
 pub fn from_bits(n: u16) -> Int
     ensures { (result.v ≡ signed16 n) × (unsigned_abs result.v ≤ half_turn) }
 {

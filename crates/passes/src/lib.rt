@@ -256,6 +256,7 @@ fn row_key(cells: &[u32]) -> u32
 }
 
 // The least score of a row and its report, or LEFT_OUT.
+#[tactic(auto, using(crate::proofs::Keys::best_none))]
 pub fn row_best(cells: &[u32]) -> Cheapest
     requires { (length cells.now ≤ key_places) × ((k : ℕ) → k < length cells.now → IsCell (at cells.now k)) }
     ensures { RowLeast cells.now result.score result.report }

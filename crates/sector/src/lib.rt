@@ -272,6 +272,7 @@ fn has_room(
 }
 
 // The public call: refused by 1 to 9, and then nothing that was lent changes; else the sector is served.
+#[tactic(auto, using(crate::proofs::Answering::by_fault))]
 pub fn serve_sector(
     table: &mut [[u8; records::SLOT_BYTES]],
     sector: &mut u8,

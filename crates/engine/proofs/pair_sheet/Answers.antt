@@ -1,11 +1,8 @@
 use mathlib.Core.Path.{sym, ◌∙◌}
 use native.Mathlib.Omega.{arith}
 use lib.Seq.{length-take-le}
-use Rattle.engine.proofs.Serve.{refuses, sizes, tested, serves}
+use Rattle.engine.proofs.Serve.{sizes, tested, serves}
 use Rattle.engine.proofs.pair_sheet.Goals as goal
-
-pub returns-then-number-ne0 : goal.returns-then-number-ne0
-returns-then-number-ne0 c = refuses _ _ _ _ _ _ _ c.sheet_refusal-number.ensures c.if-number-ne0.true
 
 pub overflow_mul-cells : goal.overflow_mul-cells
 overflow_mul-cells c =

@@ -1,16 +1,12 @@
 use mathlib.Core.Path.{sym}
 use borrow.Author.Rules.{rules}
-use borrow.Author.Tests.{le-leb, lt-leb}
-use Rattle.laws.proofs.Tests.{each_none, each_more, each_done, each_fails}
+use borrow.Author.Tests.{le-leb}
+use Rattle.laws.proofs.Tests.{each_none, each_more, each_done}
 use Rattle.matching.specs.Answer.{numbers_ok}
 use Rattle.matching.proofs.numbers_ok.Goals as goal
 
 pub loop-i-init : goal.loop-i-init
 loop-i-init c = (search rules, each_none _)
-
-pub returns-then-numbers-i-gt-LEFT_OUT : goal.returns-then-numbers-i-gt-LEFT_OUT
-unfolding numbers_ok
-returns-then-numbers-i-gt-LEFT_OUT c = sym (each_fails _ c.loop-i.i _ c.loop-i-test.true (lt-leb _ _ c.if-numbers-i-gt-LEFT_OUT.true))
 
 pub loop-i-preserved : goal.loop-i-preserved
 loop-i-preserved c = (search rules, each_more _ c.loop-i.i c.loop-i.invariant.1 (le-leb _ _ c.if-numbers-i-gt-LEFT_OUT.false))

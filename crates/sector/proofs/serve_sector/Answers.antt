@@ -3,12 +3,9 @@ use lib.Seq.{length-take-le}
 use Rattle.intake.proofs.Readiness.{ready}
 use Rattle.scoresheet.specs.Cells.{reports_of}
 use Rattle.sector.specs.Serve.{room_for}
-use Rattle.sector.proofs.Answering.{room_facts, by_fault, by_room, by_serving}
+use Rattle.sector.proofs.Answering.{room_facts, by_room, by_serving}
 use Rattle.laws.proofs.Parts.{listed_room}
 use Rattle.sector.proofs.serve_sector.Goals as goal
-
-pub returns-then-number-ne0 : goal.returns-then-number-ne0
-returns-then-number-ne0 c = by_fault _ _ _ c.take_in-taken.ensures.number_value c.if-number-ne0.true
 
 pub returns-then-not-has_room : goal.returns-then-not-has_room
 unfolding room_for reports_of
