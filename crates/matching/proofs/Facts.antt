@@ -11,7 +11,7 @@ use lib.Dec.{ltb, eqb}
 use lib.ListN.{length, get_or}
 use borrow.Author.Tests.{ltb-true, leb-true, lt-ltb, le-leb, lt-leb, ne_eqb, eqb-false, not-true}
 use Rattle.laws.specs.Tests.{each, refuse}
-use Rattle.laws.proofs.Tests.{and_both, and_left, and_right, or_else, or_second, each_at, each_all, each_fails, holds_each, all_hold, refuse_none}
+use Rattle.laws.proofs.Tests.{and_both, and_left, and_right, or_else, or_second, each_at, each_all, each_none, each_more, each_fails, holds_each, all_hold, refuse_none}
 use Rattle.laws.specs.Lists.{at}
 use Rattle.matching.specs.Pairing.{none, score_end, left_out, most_tracks, Sheet, Admissible, InRange, HasReport, ValidPairing, FairPrices, sheet_of}
 use Rattle.matching.specs.Answer.{sizes_ok, Sizes, cell_ok, cells_ok, entry_ok, pairing_ok, numbers_ok, row_ok, scores_ok, sheet_refusal}
@@ -178,7 +178,15 @@ module _ (n m : ℕ) (s : List ℕ) (pairing prices discounts : ℕ) where
   unfolding sheet_refusal
   ready_passes z r rest = rw (sizes_ok_lem n m (length s) pairing prices discounts z, cells_ok_lem n m s r)
 
--- a number over the limit is found out
+-- the numbers so far are in range: none yet, one more, one that is over
+pub none_over : (f : ℕ → ℕ) → numbers_ok 0 f ≡ true
+unfolding numbers_ok
+none_over f = each_none _
+
+pub number_within : (xs : List ℕ) (k : ℕ) → numbers_ok k (at xs) ≡ true → get_or xs k 0 ≤ left_out → numbers_ok (k + 1) (at xs) ≡ true
+unfolding numbers_ok
+number_within xs k w h = each_more _ k w (le-leb _ _ h)
+
 pub number_over : (xs : List ℕ) (n k : ℕ) → k < n → left_out < get_or xs k 0 → numbers_ok n (at xs) ≡ false
 unfolding numbers_ok
 number_over xs n k h o = each_fails _ k n h (lt-leb _ _ o)

@@ -163,7 +163,7 @@ fn pairing_ok(tracks: usize, reports: usize, sheet: &[u32], pairing: &[u32]) -> 
 }
 
 // Each of the first n prices, or discounts, is in range.
-#[tactic(auto, using(crate::proofs::Facts::number_over))]
+#[tactic(auto, using(crate::proofs::Facts::none_over, crate::proofs::Facts::number_within, crate::proofs::Facts::number_over))]
 fn numbers_ok(n: usize, numbers: &[u32]) -> bool
     requires { n ≤ length numbers.now }
     ensures { result ≡ numbers_ok n (at numbers.now) }
