@@ -76,8 +76,8 @@ fn track(dr: u32, da: u16, speed: u32, updates: u8) -> Track
 }
 
 fn report(confidence: u8, quality: u8, azimuth_degrade: u8, high: u8, low: u8) -> Report
-    requires confidence_le_confidence_most { (confidence ≤ confidence_most) × ((quality ≤ quality_most) × (azimuth_degrade ≤ 1)) }
-    requires high_lt_high_circle { (high < high_circle) × (low < low_circle) }
+    requires fields_in_range { (confidence ≤ confidence_most) × ((quality ≤ quality_most) × (azimuth_degrade ≤ 1)) }
+    requires doppler_in_range { (high < high_circle) × (low < low_circle) }
     ensures { Sound result }
 {
     Report {
@@ -93,8 +93,8 @@ fn report(confidence: u8, quality: u8, azimuth_degrade: u8, high: u8, low: u8) -
 
 // The score of a pair: 8 updates, no misses, trust 0. It is 0 for a pair that is not admissible.
 fn score(dr: u32, da: u16, speed: u32, high: u8, low: u8) -> u64
-    requires dr_le_range_most { (dr ≤ range_most) × (speed ≤ range_speed_most) }
-    requires high_lt_high_circle { (high < high_circle) × (low < low_circle) }
+    requires off_in_range { (dr ≤ range_most) × (speed ≤ range_speed_most) }
+    requires doppler_in_range { (high < high_circle) × (low < low_circle) }
 {
     let p = report(
         records::CONFIDENCE_MOST,

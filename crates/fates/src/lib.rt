@@ -85,7 +85,7 @@ fn tell_unpaired(
     free: usize,
 ) -> Told
     requires { (length table.old ≤ most_slots) × (sector < sectors) × (free ≡ free_slot table.old) }
-    ensures value { result ≡ told_unpaired p table.old }
+    ensures told { result ≡ told_unpaired p table.old }
     ensures table_after { table.new ≡ after_unpaired p sector table.old }
 {
     let weak = records::is_weak(p);
@@ -117,8 +117,8 @@ fn tell_report(
     j: usize,
 ) -> Told
     requires tellable { Tellable (handed due.now sector batch.now) pairing.now table.old }
-    requires free_value { (free ≡ free_slot table.old) × (j < length batch.now) }
-    ensures value { result ≡ told_of (handed due.now sector batch.now) pairing.now j table.old }
+    requires next_free { (free ≡ free_slot table.old) × (j < length batch.now) }
+    ensures told { result ≡ told_of (handed due.now sector batch.now) pairing.now j table.old }
     ensures table_after { table.new ≡ after_report (handed due.now sector batch.now) pairing.now j table.old }
 {
     let rank = owner_of(pairing, j as u32);

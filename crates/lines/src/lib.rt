@@ -48,7 +48,7 @@ fn separator(left: usize) -> u8
 pub fn put_line(out: &mut [u8], place: usize, numbers: &[u32]) -> usize
     requires { place + length numbers.now * most_number ≤ length out.old }
     ensures put { Put out.old place (line_of numbers.now) out.new result }
-    ensures upper_bound { result ≤ place + length numbers.now * most_number }
+    ensures in_room { result ≤ place + length numbers.now * most_number }
 {
     let mut at = place;
     let mut i: usize = 0;

@@ -286,7 +286,7 @@ fn totals_ok(
     discounts: &[u32],
 ) -> bool
     requires sizes { Sizes tracks reports (length sheet.now) (length pairing.now) (length prices.now) (length discounts.now) }
-    requires pairing_value { pairing_ok (sheet_of tracks reports sheet.now) (at pairing.now) ≡ true }
+    requires pairing_good { pairing_ok (sheet_of tracks reports sheet.now) (at pairing.now) ≡ true }
     ensures { result ≡ totals_ok (sheet_of tracks reports sheet.now) (at pairing.now) (at prices.now) (at discounts.now) }
 {
     let paid = sum_of(tracks, prices);

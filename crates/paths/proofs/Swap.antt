@@ -15,12 +15,12 @@ use Rattle.laws.proofs.Stores.{same_or}
 -- other lists of the same lengths
 pub reshaped : {cells : List ℕ} {m n : ℕ} {pairing owner prices discounts pairing' owner' prices' discounts' : List ℕ} → Shape cells m n pairing owner prices discounts → length pairing' ≡ length pairing → length owner' ≡ length owner
     → length prices' ≡ length prices → length discounts' ≡ length discounts → Shape cells m n pairing' owner' prices' discounts'
-reshaped S pairing-as owner-as prices-as discounts-as = record {
+reshaped S pairing-as owner_as prices-as discounts_as = record {
   cells_long = S.cells_long;
   pairing_long = pairing-as ∙ S.pairing_long;
-  owner_long = owner-as ∙ S.owner_long;
+  owner_long = owner_as ∙ S.owner_long;
   prices_long = prices-as ∙ S.prices_long;
-  discounts_long = discounts-as ∙ S.discounts_long;
+  discounts_long = discounts_as ∙ S.discounts_long;
   tracks_few = S.tracks_few;
   reports_few = S.reports_few;
   cells_good = S.cells_good;

@@ -113,7 +113,7 @@ fn pass_through(
     closings: &mut [u32],
 ) -> Progress
     requires standing { Standing sheet.now reports (length prices.now) pairing.now owner.now prices.now discounts.now track s.leaving s.leaver s.closed s.front s.next labels.old via.old closings.old }
-    requires next_value { is_taken owner.now s.next ≡ true }
+    requires next_taken { is_taken owner.now s.next ≡ true }
     ensures { Standing sheet.now reports (length prices.now) pairing.now owner.now prices.now discounts.now track result.leaving result.leaver result.closed result.front result.next labels.new via.new closings.new × (result.closed ≡ s.closed + 1) }
 {
     let j = s.next;

@@ -15,11 +15,11 @@ use Rattle.matching.specs.Pairing.{InRange, Alike, sheet_of}
 use Rattle.matching.specs.Answer.{Fits, check_answer}
 use Rattle.matching.proofs.Theorems.{zero_certificate, ready_is_not_refused, beyond_is_not_read}
 use Rattle.engine.specs.declared.Paired.{Paired}
-use Rattle.engine.specs.declared.Paired.TheVariants as paired-call
+use Rattle.engine.specs.declared.Paired.TheVariants as paired_call
 use Rattle.engine.specs.Call as pairing
 use Rattle.intake.specs.Refusals.{Input, fault_of, refusal_of, Ready, no_room}
 use Rattle.intake.proofs.Readiness.{ready, not_refused, refused_by_fault, refused_by_room}
-use Rattle.scoresheet.specs.declared.Sheeted.TheVariants as sheet-call
+use Rattle.scoresheet.specs.declared.Sheeted.TheVariants as sheet_call
 use Rattle.scoresheet.specs.Cells.{cells_of, tracks_of, reports_of, sector_sheet}
 use Rattle.scoresheet.specs.Call.{cell_room, sheeted_by, sheet_by, sheeted_of, sheet_after}
 use Rattle.scoresheet.proofs.SheetLaws.{cells_length, sheet_in_range}
@@ -68,12 +68,12 @@ record SheetGiven (i : Input) (sheet after : List ℕ) (n m : ℕ) : Type 0 wher
   pub reports : reports_of i ≡ m
   pub cells : after ≡ cells_of i ++ drop (tracks_of i * reports_of i) sheet
 
-given_by : (k : ℕ) (i : Input) (sheet : List ℕ) (n m : ℕ) → (k ≡ 0 → Ready i) → sheeted_by k i ≡ sheet-call.Sheet n m → SheetGiven i sheet (sheet_by k i sheet) n m
+given_by : (k : ℕ) (i : Input) (sheet : List ℕ) (n m : ℕ) → (k ≡ 0 → Ready i) → sheeted_by k i ≡ sheet_call.Sheet n m → SheetGiven i sheet (sheet_by k i sheet) n m
 unfolding sheeted_by sheet_by
 given_by zero i sheet n m r e = record { is_ready = r refl; tracks = cc; reports = cc; cells = refl }
 given_by (suc k) i sheet n m r e = let z : ◌≡◌ {A = ℕ} 0 1 = cc in absurd (omega arith)
 
-given : (i : Input) (sheet : List ℕ) (n m : ℕ) → sheeted_of i sheet ≡ sheet-call.Sheet n m → SheetGiven i sheet (sheet_after i sheet) n m
+given : (i : Input) (sheet : List ℕ) (n m : ℕ) → sheeted_of i sheet ≡ sheet_call.Sheet n m → SheetGiven i sheet (sheet_after i sheet) n m
 unfolding sheeted_of sheet_after
 given i sheet n m e = given_by (refusal_of i (cell_room i sheet)) i sheet n m (λ z. ready i (not_refused i (cell_room i sheet) z).0) e
 
@@ -152,7 +152,7 @@ module _ (i : Input) (rest : List ℕ) (r : Ready i) (p u v : List ℕ) (room : 
   }
 
   -- and any choice is what it may write
-  call_may_write : (c : Chosen) → Choice i c → pairing.PairsSheet (tracks_of i) (reports_of i) (cells_of i ++ rest) p u v (c.pairing ++ drop (tracks_of i) p) (c.prices ++ drop (tracks_of i) u) (c.discounts ++ drop (reports_of i) v) paired-call.Done
+  call_may_write : (c : Chosen) → Choice i c → pairing.PairsSheet (tracks_of i) (reports_of i) (cells_of i ++ rest) p u v (c.pairing ++ drop (tracks_of i) p) (c.prices ++ drop (tracks_of i) u) (c.discounts ++ drop (reports_of i) v) paired_call.Done
   unfolding pairing.paired_by
   call_may_write c h =
       let z = own_sheet_is_not_refused i rest r p u v room in
@@ -169,7 +169,7 @@ sector_call_may_answer_so i l c e h = record {
   served = λ z. record { chosen = c; choice = h; counted = refl; left = refl };
 }
 
-module _ (i : Input) (sheet p u v : List ℕ) (n m : ℕ) (e : sheeted_of i sheet ≡ sheet-call.Sheet n m) (room : RoomToPair i p u v) where
+module _ (i : Input) (sheet p u v : List ℕ) (n m : ℕ) (e : sheeted_of i sheet ≡ sheet_call.Sheet n m) (room : RoomToPair i p u v) where
   -- Where the sheet call gives a sheet, the pairing call on it is done, and what it writes is a choice that the sector call may make.
   pub two_calls_give_a_choice : {p' u' v' : List ℕ} {a : Paired} → pairing.PairsSheet n m (sheet_after i sheet) p u v p' u' v' a → Together i p' u' v' a
   two_calls_give_a_choice R =
@@ -181,7 +181,7 @@ module _ (i : Input) (sheet p u v : List ℕ) (n m : ℕ) (e : sheeted_of i shee
   sector_call_gives_both {p'} {u'} {v'} R l z = sector_call_may_answer_so i l (first_of i p' u' v') z (two_calls_give_a_choice R).choice
 
   -- And whatever choice a sector call makes, the pairing call may write on that sheet.
-  pub choice_is_what_two_calls_give : (c : Chosen) → Choice i c → pairing.PairsSheet n m (sheet_after i sheet) p u v (c.pairing ++ drop n p) (c.prices ++ drop n u) (c.discounts ++ drop m v) paired-call.Done
+  pub choice_is_what_two_calls_give : (c : Chosen) → Choice i c → pairing.PairsSheet n m (sheet_after i sheet) p u v (c.pairing ++ drop n p) (c.prices ++ drop n u) (c.discounts ++ drop m v) paired_call.Done
   choice_is_what_two_calls_give c h =
       let g = given i sheet n m e in
       rw (g.cells, ← g.tracks, ← g.reports) (call_may_write i _ g.is_ready p u v room c h)
@@ -200,10 +200,10 @@ by_fault i room k h n e =
     go true z = n (sym z)
     go false z = omega arith
 
-sheet_refused_by : (j k : ℕ) (i : Input) → (sheeted_by j i ≡ sheet-call.Refused k → (j ≡ k) × (k ≡ 0 → ⊥)) × (j ≡ k → (k ≡ 0 → ⊥) → sheeted_by j i ≡ sheet-call.Refused k)
+sheet_refused_by : (j k : ℕ) (i : Input) → (sheeted_by j i ≡ sheet_call.Refused k → (j ≡ k) × (k ≡ 0 → ⊥)) × (j ≡ k → (k ≡ 0 → ⊥) → sheeted_by j i ≡ sheet_call.Refused k)
 unfolding sheeted_by
 sheet_refused_by zero k i = ((λ e. let z : ◌≡◌ {A = ℕ} 0 1 = cc in absurd (omega arith)), λ e n. absurd (n (sym e)))
-sheet_refused_by (suc j) k i = ((λ e. (cc, λ z. let q : suc j ≡ k = cc in omega arith)), λ e n. ap sheet-call.Refused e)
+sheet_refused_by (suc j) k i = ((λ e. (cc, λ z. let q : suc j ≡ k = cc in omega arith)), λ e n. ap sheet_call.Refused e)
 
 -- A sector call and a sheet call that are handed the same are refused by the same numbers of 1 to 8.
 pub refused_alike : (i : Input) (l l' : Lent) (answer : Served) (sheet : List ℕ) → ServesSector i l l' answer → (k : ℕ) → k < no_room → RefusedAlike answer (sheeted_of i sheet) k

@@ -5,10 +5,10 @@ use Rattle.records.specs.Bytes.{bytes_of, report_of, is_held, is_free}
 use Rattle.settling.specs.Settle.{updated_of, started_of}
 use Rattle.matching.specs.Pairing.{pairs, sum_of_scores, Agree}
 use Rattle.engine.specs.declared.Paired.{Paired}
-use Rattle.engine.specs.declared.Paired.TheVariants as paired-call
+use Rattle.engine.specs.declared.Paired.TheVariants as paired_call
 use Rattle.intake.specs.Refusals.{Input}
 use Rattle.scoresheet.specs.declared.Sheeted.{Sheeted}
-use Rattle.scoresheet.specs.declared.Sheeted.TheVariants as sheet-call
+use Rattle.scoresheet.specs.declared.Sheeted.TheVariants as sheet_call
 use Rattle.scoresheet.specs.Cells.{tracks_of, reports_of, due_slot, due_track, sector_sheet}
 use Rattle.walk.specs.Table.{settled_table}
 use Rattle.fates.specs.Fates.{paired, started, shown_from, slots_of, shown_of}
@@ -118,13 +118,13 @@ pub record RoomToPair (i : Input) (pairing prices discounts : List ℕ) : Type 0
 
 -- the pairing call is done, and a sector call may choose what it wrote
 pub record Together (i : Input) (pairing' prices' discounts' : List ℕ) (answer : Paired) : Type 0 where
-  pub done : answer ≡ paired-call.Done
+  pub done : answer ≡ paired_call.Done
   pub choice : Choice i (first_of i pairing' prices' discounts')
 
 -- a sector call and a sheet call are refused by the same numbers of 1 to 8
 pub record RefusedAlike (answer : Served) (sheeted : Sheeted) (k : ℕ) : Type 0 where
-  pub by_sheet : answer ≡ Refused k → sheeted ≡ sheet-call.Refused k
-  pub by_sector : sheeted ≡ sheet-call.Refused k → answer ≡ Refused k
+  pub by_sheet : answer ≡ Refused k → sheeted ≡ sheet_call.Refused k
+  pub by_sector : sheeted ≡ sheet_call.Refused k → answer ≡ Refused k
 
 -- ---- a call as a whole
 

@@ -72,7 +72,7 @@ pub fn score_sheet(
     batch: &[[u8; records::REPORT_BYTES]],
     sheet: &mut [u32],
 ) -> Sheeted
-    ensures value { result ≡ sheeted_of (input table.now sector site batch.now) sheet.old }
+    ensures answer { result ≡ sheeted_of (input table.now sector site batch.now) sheet.old }
     ensures sheet_after { sheet.new ≡ sheet_after (input table.now sector site batch.now) sheet.old }
 {
     let mut due = intake::blank_due();

@@ -40,7 +40,7 @@ pub enum Served {
 // The score of a due track's pair, or 0 where it has none.
 fn pair_score(sheet: &[u32], reports: usize, pairing: &[u32], track: usize) -> u32
     requires summable { Summable reports sheet.now pairing.now }
-    requires track_in_bounds { track < length pairing.now }
+    requires track_in { track < length pairing.now }
     ensures { (result ≡ score_or 0 (sheet_of (length pairing.now) reports sheet.now) (at pairing.now) track) × (result < score_end) }
 {
     let number = pairing[track];
@@ -221,7 +221,7 @@ fn serve(
     prices: &mut [u32],
 ) -> Counts
     requires ready { Ready (input table.old sector site batch.now) }
-    requires due_value { due.now ≡ due_slots table.old }
+    requires due_listed { due.now ≡ due_slots table.old }
     requires room { Room (length table.old) (length batch.now) (length fates.old) (length slots.old) (length shown.old) (length discounts.old) (length prices.old) }
     ensures { ServedWith (input table.old sector site batch.now)
         (lent table.old sector fates.old slots.old shown.old discounts.old prices.old)

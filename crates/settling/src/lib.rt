@@ -100,8 +100,8 @@ pub fn speed_correction(d: Int, b: u32, f: u32) -> Int
 }
 
 fn new_speed(most: u32, speed: Int, d: Int, b: u32, f: u32) -> Int
-    requires v_bound { (nat_abs speed.v ≤ azimuth_speed_most) × (nat_abs d.v ≤ range_most) }
-    requires b_le_tenths { (b ≤ tenths) × ((0 < f) × (f ≤ 256)) }
+    requires sizes_in_range { (nat_abs speed.v ≤ azimuth_speed_most) × (nat_abs d.v ≤ range_most) }
+    requires gains_in_range { (b ≤ tenths) × ((0 < f) × (f ≤ 256)) }
     ensures { (result.v ≡ new_speed most speed.v d.v b f) × (nat_abs result.v ≤ most) }
 {
     numbers::held_within(speed.minus(speed_correction(d, b, f)), most)
@@ -170,7 +170,7 @@ fn one_more_update(updates: u8) -> u8
 pub fn updated(t: Track, p: Report, s: u8) -> Track
     requires settleable { Settleable t }
     requires sound { Sound p }
-    requires s_lt_sectors { s < sectors }
+    requires sector_in { s < sectors }
     ensures { result ≡ updated_of t p s }
 {
     let a = gain_a(t, p);
@@ -200,7 +200,7 @@ pub fn updated(t: Track, p: Report, s: u8) -> Track
 // A due track without a pair, in sector s: dropped where one more miss exceeds its allowance.
 pub fn without_pair(t: Track, s: u8) -> Missed
     requires settleable { Settleable t }
-    requires s_lt_sectors { s < sectors }
+    requires sector_in { s < sectors }
     ensures { result ≡ without_pair t s }
 {
     if records::allowed_misses(t.updates) <= t.misses {

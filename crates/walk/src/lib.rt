@@ -40,7 +40,7 @@ fn age_slot(mut slot: [u8; records::SLOT_BYTES]) -> [u8; records::SLOT_BYTES]
 // A due track without a pair: it coasts, or its slot is freed.
 fn missed_slot(slot: [u8; records::SLOT_BYTES], sector: u8) -> [u8; records::SLOT_BYTES]
     requires well_formed { WellFormed (track_of slot) sector }
-    requires sector_lt_sectors { sector < sectors }
+    requires sector_in { sector < sectors }
     ensures { result ≡ missed_slot sector slot }
 {
     let outcome = settling::without_pair(records::unpack(slot), sector);
@@ -58,7 +58,7 @@ fn paired_slot(
 ) -> [u8; records::SLOT_BYTES]
     requires settleable { Settleable (track_of slot) }
     requires sound { Sound (report_of report) }
-    requires sector_lt_sectors { sector < sectors }
+    requires sector_in { sector < sectors }
     ensures { result ≡ paired_slot sector report slot }
 {
     let t = records::unpack(slot);
@@ -189,9 +189,9 @@ pub fn settle_table(
 // What one due track adds to the counts; number is its report's, or NONE.
 fn missed_one(slot: [u8; records::SLOT_BYTES], number: u32, sector: u8) -> MissedCounts
     requires settleable { Settleable (track_of slot) }
-    requires sector_lt_sectors { sector < sectors }
-    ensures coasted_value { (result.coasted ≡ cond (eqb number none) (coasted_one (without_pair (track_of slot) sector)) 0) × (result.coasted ≤ 1) }
-    ensures dropped_value { (result.dropped ≡ cond (eqb number none) (dropped_one (without_pair (track_of slot) sector)) 0) × (result.dropped ≤ 1) }
+    requires sector_in { sector < sectors }
+    ensures coasts { (result.coasted ≡ cond (eqb number none) (coasted_one (without_pair (track_of slot) sector)) 0) × (result.coasted ≤ 1) }
+    ensures drops { (result.dropped ≡ cond (eqb number none) (dropped_one (without_pair (track_of slot) sector)) 0) × (result.dropped ≤ 1) }
 {
     if number != matching::NONE {
         return MissedCounts {
@@ -222,9 +222,9 @@ pub fn count_missed(
     pairing: &[u32],
 ) -> MissedCounts
     requires ready { Ready (input table.now sector site batch.now) }
-    requires due_value { (due.now ≡ due_slots table.now) × (length due.now ≤ length pairing.now) }
-    ensures coasted_value { result.coasted ≡ coasted_count (input table.now sector site batch.now) (length due.now) pairing.now }
-    ensures dropped_value { result.dropped ≡ dropped_count (input table.now sector site batch.now) (length due.now) pairing.now }
+    requires due_listed { (due.now ≡ due_slots table.now) × (length due.now ≤ length pairing.now) }
+    ensures coasts { result.coasted ≡ coasted_count (input table.now sector site batch.now) (length due.now) pairing.now }
+    ensures drops { result.dropped ≡ dropped_count (input table.now sector site batch.now) (length due.now) pairing.now }
 {
     let mut coasted: u32 = 0;
     let mut dropped: u32 = 0;

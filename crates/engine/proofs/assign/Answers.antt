@@ -8,7 +8,7 @@ pub match_all-requires : goal.match_all-requires
 match_all-requires c = c.requires
 
 pub loop-track-init : goal.loop-track-init
-loop-track-init c = (good_len _ _ _ _ _ _ _ c.match_all.ensures, (search rules, (below_none _, (omega (arith, c.labels-1.given, c.requires.rooms.labels_long), (omega (arith, c.via-1.given, c.requires.rooms.via_long), omega (arith, c.closings-1.given, c.requires.rooms.closings_long))))))
+loop-track-init c = (good_len _ _ _ _ _ _ _ c.match_all.ensures, (search rules, (below_none _, (omega (arith, c.requires.rooms.labels_long), (omega (arith, c.requires.rooms.via_long), omega (arith, c.requires.rooms.closings_long))))))
 
 pub overflow_cast-track : goal.overflow_cast-track
 overflow_cast-track c =

@@ -19,11 +19,11 @@ pub returns-then-rank-pairing : goal.returns-then-rank-pairing
 unfolding told_of told_paired slot_of after_report
 returns-then-rank-pairing c =
     let owner_of = c.owner_of-rank in
-    record { value = rw (← owner_of.ensures, lt-ltb _ _ c.if-rank-pairing.true, c.shown_mark.ensures); table_after = rw (← owner_of.ensures, lt-ltb _ _ c.if-rank-pairing.true) }
+    record { told = rw (← owner_of.ensures, lt-ltb _ _ c.if-rank-pairing.true, c.shown_mark.ensures); table_after = rw (← owner_of.ensures, lt-ltb _ _ c.if-rank-pairing.true) }
 
 pub returns : goal.returns
 unfolding told_of after_report
 returns c =
     let owner_of = c.owner_of-rank in
     let if1 = c.if-rank-pairing in
-    record { value = rw (← owner_of.ensures, le-ltb _ _ if1.false, ← c.unpack_report.ensures) c.tell_unpaired.ensures.value; table_after = rw (← owner_of.ensures, le-ltb _ _ if1.false, ← c.unpack_report.ensures) c.tell_unpaired.ensures.table_after }
+    record { told = rw (← owner_of.ensures, le-ltb _ _ if1.false, ← c.unpack_report.ensures) c.tell_unpaired.ensures.told; table_after = rw (← owner_of.ensures, le-ltb _ _ if1.false, ← c.unpack_report.ensures) c.tell_unpaired.ensures.table_after }

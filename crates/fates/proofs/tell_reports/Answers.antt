@@ -14,12 +14,12 @@ pub free_from-free-requires : goal.free_from-free-requires
 free_from-free-requires c = c.loop-j.invariant.below
 
 pub tell_report-told-requires : goal.tell_report-told-requires
-tell_report-told-requires c = record { tellable = tellable_still c.loop-j.invariant.same c.requires.tellable; free_value = (c.free_from-free.ensures, c.loop-j-test.true) }
+tell_report-told-requires c = record { tellable = tellable_still c.loop-j.invariant.same c.requires.tellable; next_free = (c.free_from-free.ensures, c.loop-j-test.true) }
 
 pub loop-j-preserved : goal.loop-j-preserved
 loop-j-preserved c =
     let i = c.loop-j.invariant in
-    let told = c.tell_report-told.ensures.value in
+    let told = c.tell_report-told.ensures.told in
     let e = c.tell_report-told.ensures.table_after in
     let l = c.loop-j-test.true in
     let room = c.requires.room_to_tell in

@@ -6,7 +6,7 @@ use Rattle.fates.proofs.tell_unpaired.Goals as goal
 pub returns-then-fate-ne-STARTED : goal.returns-then-fate-ne-STARTED
 returns-then-fate-ne-STARTED c =
     let u = untracked c.args.p c.args.sector c.args.table.now c.is_weak-weak.ensures c.requires.2 c.first_fate-fate.ensures c.if-fate-ne-STARTED.true in
-    record { value = u.told; table_after = u.after }
+    record { told = u.told; table_after = u.after }
 
 pub pack-requires : goal.pack-requires
 unfolding started_of
@@ -24,4 +24,4 @@ overflow_cast-result c = omega (arith, c.requires.0, (tracked c.args.p c.args.se
 pub returns : goal.returns
 returns c =
     let u = tracked _ _ _ c.is_weak-weak.ensures c.requires.2 c.first_fate-fate.ensures c.if-fate-ne-STARTED.false in
-    record { value = u.told; table_after = rw (c.pack.ensures, c.started.ensures) u.after }
+    record { told = u.told; table_after = rw (c.pack.ensures, c.started.ensures) u.after }

@@ -28,4 +28,4 @@ shape_of-out c = c.loop-i.invariant.so.same
 pub returns : goal.returns
 returns c =
     let put = lining_end c.loop-i.invariant (omega arith) c.loop-i-test.false in
-    record { put = put; upper_bound = omega (arith, put.past, line_short c.args.numbers.now) }
+    record { put = put; in_room = omega (arith, put.past, line_short c.args.numbers.now) }

@@ -50,7 +50,7 @@ returns-then-not-scores_ok c =
     )
 
 pub totals_ok-requires : goal.totals_ok-requires
-totals_ok-requires c = record { sizes = facts.passed_sizes _ _ _ _ _ _ (sym c.sheet_refusal-refused.ensures ∙ c.if-refused-ne0.false); pairing_value = sym c.pairing_ok.ensures ∙ c.if-not-pairing_ok.false }
+totals_ok-requires c = record { sizes = facts.passed_sizes _ _ _ _ _ _ (sym c.sheet_refusal-refused.ensures ∙ c.if-refused-ne0.false); pairing_good = sym c.pairing_ok.ensures ∙ c.if-not-pairing_ok.false }
 
 pub returns-then-not-totals_ok : goal.returns-then-not-totals_ok
 unfolding check_answer

@@ -7,42 +7,42 @@ use Rattle.paths.proofs.pass_through.Goals as goal
 
 pub bounds-labels-j : goal.bounds-labels-j
 bounds-labels-j c =
-    omega (arith, next_in c.requires.standing c.requires.next_value, c.requires.standing.tree.labels_long)
+    omega (arith, next_in c.requires.standing c.requires.next_taken, c.requires.standing.tree.labels_long)
 
 pub bounds-closings-j : goal.bounds-closings-j
 bounds-closings-j c =
-    omega (arith, next_in c.requires.standing c.requires.next_value, c.requires.standing.tree.closings_long)
+    omega (arith, next_in c.requires.standing c.requires.next_taken, c.requires.standing.tree.closings_long)
 
 pub bounds-owner-j : goal.bounds-owner-j
 bounds-owner-j c =
-    omega (arith, next_in c.requires.standing c.requires.next_value, c.requires.standing.good.shape.owner_long)
+    omega (arith, next_in c.requires.standing c.requires.next_taken, c.requires.standing.good.shape.owner_long)
 
 pub offset_bounds-prices-index : goal.offset_bounds-prices-index
 offset_bounds-prices-index c =
-    omega (arith, c.index.ensures, (own_j c.requires.standing c.requires.next_value).there, c.requires.standing.good.shape.tracks_few)
+    omega (arith, c.index.ensures, (own_j c.requires.standing c.requires.next_taken).there, c.requires.standing.good.shape.tracks_few)
 
 pub bounds-prices-index : goal.bounds-prices-index
 bounds-prices-index c =
-    omega (arith, c.index.ensures, (own_j c.requires.standing c.requires.next_value).there)
+    omega (arith, c.index.ensures, (own_j c.requires.standing c.requires.next_taken).there)
 
 pub overflow_sub-cost : goal.overflow_sub-cost
 overflow_sub-cost c =
-    omega (arith, ap (at c.args.prices.now) c.index.ensures, c.requires.standing.good.numbers.price_in _ (own_j c.requires.standing c.requires.next_value).there)
+    omega (arith, ap (at c.args.prices.now) c.index.ensures, c.requires.standing.good.numbers.price_in _ (own_j c.requires.standing c.requires.next_taken).there)
 
 pub overflow_add-cost : goal.overflow_add-cost
 overflow_add-cost c =
-    omega (arith, c.requires.standing.tree.labels_in _ (next_in c.requires.standing c.requires.next_value))
+    omega (arith, c.requires.standing.tree.labels_in _ (next_in c.requires.standing c.requires.next_taken))
 
 pub choose-leaver-requires : goal.choose-leaver-requires
 choose-leaver-requires c =
     let S = c.requires.standing in
-    let t = c.requires.next_value in
+    let t = c.requires.next_taken in
     (omega (arith, S.tree.labels_in _ (next_in S t)), omega (arith, S.tree.leaving_in))
 
 pub lesser-leaving-requires : goal.lesser-leaving-requires
 lesser-leaving-requires c =
     let S = c.requires.standing in
-    let t = c.requires.next_value in
+    let t = c.requires.next_taken in
     (omega (arith, S.tree.labels_in _ (next_in S t)), omega (arith, S.tree.leaving_in))
 
 pub open_from-front-requires : goal.open_from-front-requires
@@ -52,11 +52,11 @@ open_from-front-requires c =
 
 pub offer_from-requires : goal.offer_from-requires
 offer_from-requires c =
-    fit_row c.requires.standing c.requires.next_value c.open_from-front.ensures
+    fit_row c.requires.standing c.requires.next_taken c.open_from-front.ensures
 
 pub nearest_from-next-requires : goal.nearest_from-next-requires
 nearest_from-next-requires c =
-    keys c.requires.standing.good (passed_on c.requires.standing c.requires.next_value c.index.ensures c.lesser-leaving.ensures c.choose-leaver.ensures c.offer_from.ensures) (front_more c.requires.standing c.requires.next_value c.open_from-front.ensures)
+    keys c.requires.standing.good (passed_on c.requires.standing c.requires.next_taken c.index.ensures c.lesser-leaving.ensures c.choose-leaver.ensures c.offer_from.ensures) (front_more c.requires.standing c.requires.next_taken c.open_from-front.ensures)
 
 pub overflow_add-result : goal.overflow_add-result
 overflow_add-result c =
@@ -67,8 +67,8 @@ pub returns : goal.returns
 returns c = (
   record {
     good = c.requires.standing.good;
-    tree = passed_on c.requires.standing c.requires.next_value c.index.ensures c.lesser-leaving.ensures c.choose-leaver.ensures c.offer_from.ensures;
-    behind = front_more c.requires.standing c.requires.next_value c.open_from-front.ensures;
+    tree = passed_on c.requires.standing c.requires.next_taken c.index.ensures c.lesser-leaving.ensures c.choose-leaver.ensures c.offer_from.ensures;
+    behind = front_more c.requires.standing c.requires.next_taken c.open_from-front.ensures;
     nearest = c.nearest_from-next.ensures;
   },
   refl,

@@ -10,7 +10,7 @@ pub loop-labels-init : goal.loop-labels-init
 loop-labels-init c = c.set_out-s.ensures
 
 pub pass_through-s-requires : goal.pass_through-s-requires
-pass_through-s-requires c = record { standing = c.loop-labels.invariant; next_value = sym c.is_taken.ensures ∙ c.loop-labels-test.true }
+pass_through-s-requires c = record { standing = c.loop-labels.invariant; next_taken = sym c.is_taken.ensures ∙ c.loop-labels-test.true }
 
 pub loop-labels-smaller : goal.loop-labels-smaller
 loop-labels-smaller c = omega (arith, c.pass_through-s.ensures.1, c.pass_through-s.ensures.0.tree.count)

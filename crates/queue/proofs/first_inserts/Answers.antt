@@ -28,7 +28,7 @@ loop-round-smaller c = omega (arith, c.next_round-round.ensures.0, c.loop-round.
 pub loop-round-preserved : goal.loop-round-preserved
 loop-round-preserved c =
     let G = c.loop-round.invariant.0 in
-    (good_at _ _ _ _ _ _ _ _ G.shape.prices_long c.insert-r.ensures.0.good, (record { labels_long = search rules; via_long = omega (arith, c.via-1.given, c.loop-round.invariant.1.0.via_long); closings_long = omega (arith, c.closings-1.given, c.loop-round.invariant.1.0.closings_long) }, omega (arith, c.next_round-round.ensures.1, G.shape.prices_long, c.insert-r.ensures.0.good.shape.prices_long)))
+    (good_at _ _ _ _ _ _ _ _ G.shape.prices_long c.insert-r.ensures.0.good, (record { labels_long = search rules; via_long = omega (arith, c.loop-round.invariant.1.0.via_long); closings_long = omega (arith, c.loop-round.invariant.1.0.closings_long) }, omega (arith, c.next_round-round.ensures.1, G.shape.prices_long, c.insert-r.ensures.0.good.shape.prices_long)))
 
 pub returns : goal.returns
 returns c = c.loop-round.invariant.0

@@ -15,18 +15,22 @@ handed c =
 -- nothing of 1 to 8 applies, and the due slots are listed
 counts : (c : Else-number-ne0) → Listed (handed c) c.take_in-taken.result.tracks c.take_in-taken.new.due
 counts c =
-    listed (sym c.take_in-taken.ensures.number_value ∙ c.if-number-ne0.false)
-    (c.take_in-taken.ensures.tracks_value c.if-number-ne0.false).0
-    (c.take_in-taken.ensures.tracks_value c.if-number-ne0.false).1
+    listed (sym c.take_in-taken.ensures.fault ∙ c.if-number-ne0.false)
+    (c.take_in-taken.ensures.due_listed c.if-number-ne0.false).0
+    (c.take_in-taken.ensures.due_listed c.if-number-ne0.false).1
 
 pub returns-then-number-ne0 : goal.returns-then-number-ne0
-returns-then-number-ne0 c = record { value = (by_fault _ _ _ c.take_in-taken.ensures.number_value c.if-number-ne0.true).0; sheet_after = (by_fault _ _ _ c.take_in-taken.ensures.number_value c.if-number-ne0.true).1 }
+returns-then-number-ne0 c =
+    let w = by_fault _ _ _ c.take_in-taken.ensures.fault c.if-number-ne0.true in
+    record { answer = w.0; sheet_after = w.1 }
 
 pub overflow_mul-tracks : goal.overflow_mul-tracks
 overflow_mul-tracks c = omega (arith, few_cells (counts (goal.at.overflow_mul-tracks c).Else-number-ne0))
 
 pub returns-then-sheet-tracks : goal.returns-then-sheet-tracks
-returns-then-sheet-tracks c = record { value = (too_short _ (counts (goal.at.returns-then-sheet-tracks c).Else-number-ne0) c.if-sheet-tracks.true).0; sheet_after = (too_short _ (counts (goal.at.returns-then-sheet-tracks c).Else-number-ne0) c.if-sheet-tracks.true).1 }
+returns-then-sheet-tracks c =
+    let w = too_short _ (counts (goal.at.returns-then-sheet-tracks c).Else-number-ne0) c.if-sheet-tracks.true in
+    record { answer = w.0; sheet_after = w.1 }
 
 pub slice_bounds-due-end : goal.slice_bounds-due-end
 slice_bounds-due-end c = (counts (goal.at.slice_bounds-due-end c).Else-number-ne0).room
@@ -38,4 +42,6 @@ pub fill_rows-requires : goal.fill_rows-requires
 fill_rows-requires c = record { ready = (counts (goal.at.fill_rows-requires c).Else-number-ne0).good; rows_ready = rows_ready (counts (goal.at.fill_rows-requires c).Else-number-ne0) c.if-sheet-tracks.false }
 
 pub returns : goal.returns
-returns c = record { value = (served _ _ (counts (goal.at.returns c).Else-number-ne0) c.if-sheet-tracks.false c.fill_rows.ensures).0; sheet_after = (served _ _ (counts (goal.at.returns c).Else-number-ne0) c.if-sheet-tracks.false c.fill_rows.ensures).1 }
+returns c =
+    let w = served _ _ (counts (goal.at.returns c).Else-number-ne0) c.if-sheet-tracks.false c.fill_rows.ensures in
+    record { answer = w.0; sheet_after = w.1 }

@@ -1,4 +1,3 @@
-use borrow.Author.Tests.{not-true, not-false}
 use Rattle.scoring.specs.Score.{doppler_agrees}
 use Rattle.scoring.proofs.doppler_agrees.Goals as goal
 
@@ -8,8 +7,8 @@ returns-then-is_weak c = rw (← c.is_weak.ensures, c.if-is_weak.true)
 
 pub returns-then-not-doppler_near : goal.returns-then-not-doppler_near
 unfolding doppler_agrees
-returns-then-not-doppler_near c = rw (← c.is_weak.ensures, c.if-is_weak.false, ← c.doppler_near.ensures, not-true c.doppler_near.result c.if-not-doppler_near.true-raw)
+returns-then-not-doppler_near c = rw (← c.is_weak.ensures, c.if-is_weak.false, ← c.doppler_near.ensures, c.if-not-doppler_near.true)
 
 pub returns : goal.returns
 unfolding doppler_agrees
-returns c = rw (← c.is_weak.ensures, c.if-is_weak.false, ← c.doppler_near.ensures, not-false c.doppler_near.result c.if-not-doppler_near.false-raw) c.doppler_near-2.ensures
+returns c = rw (← c.is_weak.ensures, c.if-is_weak.false, ← c.doppler_near.ensures, c.if-not-doppler_near.false) c.doppler_near-2.ensures

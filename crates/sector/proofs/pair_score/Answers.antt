@@ -9,23 +9,23 @@ returns-then-number c =
 
 pub overflow_mul-cell : goal.overflow_mul-cell
 overflow_mul-cell c =
-    omega (arith, (pair_cell_lem c.requires.summable c.requires.track_in_bounds c.if-number.false).row)
+    omega (arith, (pair_cell_lem c.requires.summable c.requires.track_in c.if-number.false).row)
 
 pub overflow_add-cell : goal.overflow_add-cell
 overflow_add-cell c =
-    let p = pair_cell_lem c.requires.summable c.requires.track_in_bounds c.if-number.false in
+    let p = pair_cell_lem c.requires.summable c.requires.track_in c.if-number.false in
     omega (arith, p.row, p.number)
 
 pub offset_bounds-sheet-cell : goal.offset_bounds-sheet-cell
 offset_bounds-sheet-cell c =
-    let p = pair_cell_lem c.requires.summable c.requires.track_in_bounds c.if-number.false in
+    let p = pair_cell_lem c.requires.summable c.requires.track_in c.if-number.false in
     omega (arith, p.row, p.number)
 
 pub bounds-sheet-cell : goal.bounds-sheet-cell
 bounds-sheet-cell c =
-    rw c.index.ensures (pair_cell_lem c.requires.summable c.requires.track_in_bounds c.if-number.false).there
+    rw c.index.ensures (pair_cell_lem c.requires.summable c.requires.track_in c.if-number.false).there
 
 pub returns : goal.returns
 returns c =
     rw c.index.ensures
-    (score_some c.args.reports c.args.sheet.now c.args.pairing.now c.args.track c.if-number.false, (pair_cell_lem c.requires.summable c.requires.track_in_bounds c.if-number.false).score)
+    (score_some c.args.reports c.args.sheet.now c.args.pairing.now c.args.track c.if-number.false, (pair_cell_lem c.requires.summable c.requires.track_in c.if-number.false).score)

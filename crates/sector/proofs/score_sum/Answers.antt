@@ -8,7 +8,7 @@ pub loop-track-init : goal.loop-track-init
 loop-track-init c = (search rules, search rules, sum_none _)
 
 pub pair_score-sum-requires : goal.pair_score-sum-requires
-pair_score-sum-requires c = record { summable = c.requires; track_in_bounds = c.loop-track-test.true }
+pair_score-sum-requires c = record { summable = c.requires; track_in = c.loop-track-test.true }
 
 pub overflow_add-sum : goal.overflow_add-sum
 overflow_add-sum c = omega (arith, c.pair_score-sum.ensures.1, c.requires.range.tracks_few, c.loop-track.invariant.1)

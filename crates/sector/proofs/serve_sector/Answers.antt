@@ -9,20 +9,20 @@ use Rattle.sector.proofs.serve_sector.Goals as goal
 
 pub returns-then-not-has_room : goal.returns-then-not-has_room
 unfolding room_for reports_of
-returns-then-not-has_room c = by_room _ _ (sym c.take_in-taken.ensures.number_value ∙ c.if-number-ne0.false) (sym c.has_room.ensures ∙ c.if-not-has_room.true)
+returns-then-not-has_room c = by_room _ _ (sym c.take_in-taken.ensures.fault ∙ c.if-number-ne0.false) (sym c.has_room.ensures ∙ c.if-not-has_room.true)
 
 pub slice_bounds-due-end : goal.slice_bounds-due-end
-slice_bounds-due-end c = listed_room _ _ (c.take_in-taken.ensures.tracks_value c.if-number-ne0.false).0 (c.take_in-taken.ensures.tracks_value c.if-number-ne0.false).1
+slice_bounds-due-end c = listed_room _ _ (c.take_in-taken.ensures.due_listed c.if-number-ne0.false).0 (c.take_in-taken.ensures.due_listed c.if-number-ne0.false).1
 
 pub slice_bounds-serve-end : goal.slice_bounds-serve-end
-slice_bounds-serve-end c = sym (length-take-le _ _ (listed_room _ _ (c.take_in-taken.ensures.tracks_value c.if-number-ne0.false).0 (c.take_in-taken.ensures.tracks_value c.if-number-ne0.false).1))
+slice_bounds-serve-end c = sym (length-take-le _ _ (listed_room _ _ (c.take_in-taken.ensures.due_listed c.if-number-ne0.false).0 (c.take_in-taken.ensures.due_listed c.if-number-ne0.false).1))
 
 pub serve-counts-requires : goal.serve-counts-requires
-serve-counts-requires c = record { ready = ready _ (sym c.take_in-taken.ensures.number_value ∙ c.if-number-ne0.false); due_value = (c.take_in-taken.ensures.tracks_value c.if-number-ne0.false).1; room = room_facts (sym c.has_room.ensures ∙ c.if-not-has_room.false) }
+serve-counts-requires c = record { ready = ready _ (sym c.take_in-taken.ensures.fault ∙ c.if-number-ne0.false); due_listed = (c.take_in-taken.ensures.due_listed c.if-number-ne0.false).1; room = room_facts (sym c.has_room.ensures ∙ c.if-not-has_room.false) }
 
 pub next_sector-requires : goal.next_sector-requires
-next_sector-requires c = (ready _ (sym c.take_in-taken.ensures.number_value ∙ c.if-number-ne0.false)).sector_in
+next_sector-requires c = (ready _ (sym c.take_in-taken.ensures.fault ∙ c.if-number-ne0.false)).sector_in
 
 pub returns : goal.returns
 unfolding room_for reports_of
-returns c = by_serving _ _ _ _ (sym c.take_in-taken.ensures.number_value ∙ c.if-number-ne0.false) (sym c.has_room.ensures ∙ c.if-not-has_room.false) (rw c.next_sector.ensures.0 c.serve-counts.ensures)
+returns c = by_serving _ _ _ _ (sym c.take_in-taken.ensures.fault ∙ c.if-number-ne0.false) (sym c.has_room.ensures ∙ c.if-not-has_room.false) (rw c.next_sector.ensures.0 c.serve-counts.ensures)

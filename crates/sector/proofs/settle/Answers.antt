@@ -8,7 +8,7 @@ score_sum-scores-requires c =
 
 pub count_missed-missed-requires : goal.count_missed-missed-requires
 count_missed-missed-requires c =
-    record { ready = c.requires.ready; due_value = counted _ _ _ _ _ c.requires.ready c.requires.paired_up }
+    record { ready = c.requires.ready; due_listed = counted _ _ _ _ _ c.requires.ready c.requires.paired_up }
 
 pub settle_table-requires : goal.settle_table-requires
 settle_table-requires c =
@@ -25,4 +25,4 @@ count_all-requires c =
 pub returns : goal.returns
 returns c =
     let tell-reports = c.tell_reports in
-    settled _ _ _ _ _ c.requires.ready c.requires.paired_up c.score_sum-scores.ensures c.count_missed-missed.ensures.coasted_value c.count_missed-missed.ensures.dropped_value c.settle_table.ensures.table_after c.settle_table.ensures.prices_after tell-reports.ensures.0 tell-reports.ensures.1 tell-reports.ensures.2 tell-reports.ensures.3 c.count_all.ensures
+    settled _ _ _ _ _ c.requires.ready c.requires.paired_up c.score_sum-scores.ensures c.count_missed-missed.ensures.coasts c.count_missed-missed.ensures.drops c.settle_table.ensures.table_after c.settle_table.ensures.prices_after tell-reports.ensures.0 tell-reports.ensures.1 tell-reports.ensures.2 tell-reports.ensures.3 c.count_all.ensures

@@ -3,7 +3,7 @@ use Rattle.settling.specs.Settle.{updated_of, updated_range, updated_azimuth, up
 use Rattle.settling.proofs.updated.Goals as goal
 
 pub wait_after-requires : goal.wait_after-requires
-wait_after-requires c = c.requires.s_lt_sectors
+wait_after-requires c = c.requires.sector_in
 
 pub returns : goal.returns
 unfolding updated_of updated_range updated_azimuth updated_range_speed updated_azimuth_speed

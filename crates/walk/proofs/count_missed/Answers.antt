@@ -8,28 +8,28 @@ loop-rank-init c = missed_none _ _ _ _
 
 pub offset_bounds-table-k : goal.offset_bounds-table-k
 offset_bounds-table-k c =
-    omega (arith, (next_due c.requires.ready c.requires.due_value.0 c.loop-rank-test.true).early)
+    omega (arith, (next_due c.requires.ready c.requires.due_listed.0 c.loop-rank-test.true).early)
 
 pub bounds-table-k : goal.bounds-table-k
 bounds-table-k c =
-    (next_due c.requires.ready c.requires.due_value.0 c.loop-rank-test.true).there
+    (next_due c.requires.ready c.requires.due_listed.0 c.loop-rank-test.true).there
 
 pub missed_one-one-requires : goal.missed_one-one-requires
 missed_one-one-requires c =
-    record { settleable = (next_due c.requires.ready c.requires.due_value.0 c.loop-rank-test.true).track; sector_lt_sectors = c.requires.ready.sector_in }
+    record { settleable = (next_due c.requires.ready c.requires.due_listed.0 c.loop-rank-test.true).track; sector_in = c.requires.ready.sector_in }
 
 pub overflow_add-coasted : goal.overflow_add-coasted
 overflow_add-coasted c =
-    omega (arith, (next_due c.requires.ready c.requires.due_value.0 c.loop-rank-test.true).few, c.loop-rank.invariant.few.0, c.missed_one-one.ensures.coasted_value.1)
+    omega (arith, (next_due c.requires.ready c.requires.due_listed.0 c.loop-rank-test.true).few, c.loop-rank.invariant.few.0, c.missed_one-one.ensures.coasts.1)
 
 pub overflow_add-dropped : goal.overflow_add-dropped
 overflow_add-dropped c =
-    omega (arith, (next_due c.requires.ready c.requires.due_value.0 c.loop-rank-test.true).few, c.loop-rank.invariant.few.1, c.missed_one-one.ensures.dropped_value.1)
+    omega (arith, (next_due c.requires.ready c.requires.due_listed.0 c.loop-rank-test.true).few, c.loop-rank.invariant.few.1, c.missed_one-one.ensures.drops.1)
 
 pub loop-rank-preserved : goal.loop-rank-preserved
 loop-rank-preserved c =
-    missed_more c.loop-rank.invariant c.loop-rank-test.true c.requires.due_value.0 c.missed_one-one.ensures.coasted_value c.missed_one-one.ensures.dropped_value
+    missed_more c.loop-rank.invariant c.loop-rank-test.true c.requires.due_listed.0 c.missed_one-one.ensures.coasts c.missed_one-one.ensures.drops
 
 pub returns : goal.returns
 unfolding coasted_count dropped_count
-returns c = record { coasted_value = (missed_end c.loop-rank.invariant c.loop-rank-test.false).0; dropped_value = (missed_end c.loop-rank.invariant c.loop-rank-test.false).1 }
+returns c = record { coasts = (missed_end c.loop-rank.invariant c.loop-rank-test.false).0; drops = (missed_end c.loop-rank.invariant c.loop-rank-test.false).1 }

@@ -8,19 +8,19 @@ use native.Mathlib.Omega.{arith}
 use Rattle.walk.proofs.missed_one.Goals as goal
 
 pub returns-then-number-ne-NONE : goal.returns-then-number-ne-NONE
-returns-then-number-ne-NONE c = rw (ne_eqb _ _ c.if-number-ne-NONE.true) (record { coasted_value = (refl, omega arith); dropped_value = (refl, omega arith) })
+returns-then-number-ne-NONE c = rw (ne_eqb _ _ c.if-number-ne-NONE.true) (record { coasts = (refl, omega arith); drops = (refl, omega arith) })
 
 pub without_pair-outcome-requires : goal.without_pair-outcome-requires
-without_pair-outcome-requires c = record { settleable = rw c.unpack.ensures c.requires.settleable; s_lt_sectors = c.requires.sector_lt_sectors }
+without_pair-outcome-requires c = record { settleable = rw c.unpack.ensures c.requires.settleable; sector_in = c.requires.sector_in }
 
 pub returns-in-Coasts : goal.returns-in-Coasts
 unfolding coasted_one dropped_one
 returns-in-Coasts c =
     let k : without_pair (track_of c.args.slot) c.args.sector ≡ Coasts c.in-Coasts.field-0 = cc in
-    rw (eq-eqb _ _ c.if-number-ne-NONE.false, k) (record { coasted_value = (refl, omega arith); dropped_value = (refl, omega arith) })
+    rw (eq-eqb _ _ c.if-number-ne-NONE.false, k) (record { coasts = (refl, omega arith); drops = (refl, omega arith) })
 
 pub returns-in-Dropped : goal.returns-in-Dropped
 unfolding coasted_one dropped_one
 returns-in-Dropped c =
     let k : without_pair (track_of c.args.slot) c.args.sector ≡ Dropped = cc in
-    rw (eq-eqb _ _ c.if-number-ne-NONE.false, k) (record { coasted_value = (refl, omega arith); dropped_value = (refl, omega arith) })
+    rw (eq-eqb _ _ c.if-number-ne-NONE.false, k) (record { coasts = (refl, omega arith); drops = (refl, omega arith) })

@@ -7,12 +7,12 @@ use Rattle.settling.proofs.HandedOn.{settleable, coasted_served}
 use Rattle.walk.proofs.missed_slot.Goals as goal
 
 pub without_pair-outcome-requires : goal.without_pair-outcome-requires
-without_pair-outcome-requires c = record { settleable = rw c.unpack.ensures (settleable c.requires.well_formed); s_lt_sectors = c.requires.sector_lt_sectors }
+without_pair-outcome-requires c = record { settleable = rw c.unpack.ensures (settleable c.requires.well_formed); sector_in = c.requires.sector_in }
 
 pub pack-requires : goal.pack-requires
 pack-requires c =
     let k : without_pair (track_of c.args.slot) c.args.sector ≡ Coasts c.in-Coasts.t = cc in
-    speeds_fit (coasted_served _ _ _ c.requires.sector_lt_sectors c.requires.well_formed k).well
+    speeds_fit (coasted_served _ _ _ c.requires.sector_in c.requires.well_formed k).well
 
 pub returns-in-Coasts : goal.returns-in-Coasts
 returns-in-Coasts c =

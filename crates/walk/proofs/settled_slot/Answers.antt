@@ -22,7 +22,7 @@ bounds-pairing-rank c = c.requires.ranked (sym c.slot_due.ensures ∙ c.if-not-s
 
 pub missed_slot-requires : goal.missed_slot-requires
 missed_slot-requires c =
-    record { well_formed = due_track_lem _ _ c.requires.slot_good (sym c.slot_due.ensures ∙ c.if-not-slot_due.false); sector_lt_sectors = c.requires.sector_in }
+    record { well_formed = due_track_lem _ _ c.requires.slot_good (sym c.slot_due.ensures ∙ c.if-not-slot_due.false); sector_in = c.requires.sector_in }
 
 pub returns-then-number : goal.returns-then-number
 unfolding settled_slot
@@ -39,7 +39,7 @@ bounds-batch-j c =
 pub paired_slot-requires : goal.paired_slot-requires
 paired_slot-requires c =
     let d = sym c.slot_due.ensures ∙ c.if-not-slot_due.false in
-    record { settleable = settleable (due_track_lem _ _ c.requires.slot_good d); sound = sound _ (c.requires.reports_good _ (c.requires.there d c.if-number.false)); sector_lt_sectors = c.requires.sector_in }
+    record { settleable = settleable (due_track_lem _ _ c.requires.slot_good d); sound = sound _ (c.requires.reports_good _ (c.requires.there d c.if-number.false)); sector_in = c.requires.sector_in }
 
 pub returns : goal.returns
 unfolding settled_slot
