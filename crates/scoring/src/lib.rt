@@ -3,7 +3,7 @@
 
 ghost use Rattle.std.specs.Prelude.{◌≡◌, cond, ◌+◌, ◌-◌, ◌*◌, ◌^◌, ◌≤◌, ◌<◌, max, leb, nat_abs};
 ghost use Rattle.numbers.specs.Scales.{range_most, half_turn, range_speed_most};
-ghost use Rattle.scoring.specs.Zone.{range_off, azimuth_off, within_sigmas, outer_sigmas, azimuth_reach, within_reach, within_outer, zone_of};
+ghost use Rattle.scoring.specs.Zone.{range_off, azimuth_off, within_sigmas, outer_sigmas, azimuth_reach, within_reach, within_outer, zone_digit};
 ghost use Rattle.scoring.specs.Position.{square, position_most, position_of};
 ghost use Rattle.scoring.specs.Score.{Scorable, doppler_near, doppler_agrees, doppler_of, updates_age, age_of, confidence_trust, quality_trust, trust_of};
 ghost use Rattle.scoring.specs.Score.{digits_worth, digits_end, score_of};
@@ -108,18 +108,18 @@ fn within_outer(t: Track, p: Report, site: Site) -> bool
     within_reach(t, p)
 }
 
-// The zone's digit, 0 for a pair that is not admissible.
-#[tactic(auto, unfolding(crate::specs::Zone::zone_of))]
-fn zone(t: Track, p: Report, site: Site) -> u32
-    ensures { result ≡ zone_of t p site }
+// The zone's digit; None for a pair that is not admissible.
+#[tactic(auto, unfolding(crate::specs::Zone::zone_digit, crate::specs::Zone::zone_of))]
+fn zone(t: Track, p: Report, site: Site) -> Option<u32>
+    ensures { result ≡ zone_digit t p site }
 {
     if within_sigmas(INNER_SIGMAS, t, p, site) {
-        return INNER_DIGIT;
+        return Some(INNER_DIGIT);
     }
     if within_outer(t, p, site) {
-        return OUTER_DIGIT;
+        return Some(OUTER_DIGIT);
     }
-    0
+    None
 }
 
 fn square(x: u64) -> u64
@@ -231,6 +231,7 @@ fn quality_trust(t: Track, p: Report) -> u32
         + u32::from(t.quality < records::SURE_QUALITY_FROM)
 }
 
+#[tactic(auto, using(crate::proofs::ScoreLaws::confidence_most_lem, crate::proofs::ScoreLaws::quality_most_lem), unfolding(crate::specs::Score::trust_of))]
 fn trust(t: Track, p: Report) -> u32
     ensures { result ≡ trust_of t p }
 {
@@ -249,15 +250,12 @@ fn worth(zone: u32, position: u32, doppler: u32, age: u32, trust: u32) -> u32
 }
 
 // None: not admissible. The position number, which costs most, is computed for admissible pairs only.
-#[tactic(auto, using(crate::proofs::ScoreLaws::worth_below), unfolding(crate::specs::Score::score_of, crate::specs::Score::worth_of, crate::specs::Score::pair_position))]
+#[tactic(auto, using(crate::proofs::ScoreLaws::worth_below), unfolding(crate::specs::Score::score_of, crate::specs::Zone::zone_digit, crate::specs::Score::worth_of, crate::specs::Score::pair_position))]
 pub fn score(t: Track, p: Report, site: Site) -> Option<u32>
     requires { Scorable t p }
     ensures { result ≡ score_of t p site }
 {
-    let zone = zone(t, p, site);
-    if zone == 0 {
-        return None;
-    }
+    let zone = zone(t, p, site)?;
     let position = position_number(
         range_off(t, p),
         azimuth_off(t, p),
