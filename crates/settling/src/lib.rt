@@ -178,7 +178,7 @@ pub fn updated(t: Track, p: Report, s: u8) -> Track
 }
 
 // A due track without a pair, in sector s; None: it is dropped, since one more miss exceeds its allowance.
-#[tactic(auto, unfolding(crate::specs::Settle::without_pair, crate::specs::Settle::coasted_of))]
+#[tactic(auto, using(records::proofs::Checked::allowance_most), unfolding(crate::specs::Settle::without_pair, crate::specs::Settle::coasted_of))]
 pub fn without_pair(t: Track, s: u8) -> Option<Track>
     requires settleable { Settleable t }
     requires sector_in { s < sectors }
