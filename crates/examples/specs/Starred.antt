@@ -1,14 +1,12 @@
 -- 01, 'Examples on each side': the starred ones, in 01's order, each a test that 01's definitions give 01's number. Numbers are
 -- written out as 01 has them, so that the table says what it tests.
-use Rattle.std.specs.Prelude.{ℕ, Bool, true, false, List, [], ◌∷◌, eqb, ℤ, pos, neg_ℤ, nat_abs, ◌-ℤ◌}
+use Rattle.std.specs.Prelude.{ℕ, Bool, true, false, List, [], ◌∷◌, eqb, ℤ, pos, neg_ℤ, nat_abs, ◌-ℤ◌, Option, Some, None}
 use Rattle.numbers.specs.Azimuth.{azimuth_difference}
 use Rattle.numbers.specs.Sectors.{calls_ahead}
 use Rattle.records.specs.declared.Track.{Track}
 use Rattle.records.specs.declared.Report.{Report}
 use Rattle.records.specs.declared.Site.{Site}
 use Rattle.records.specs.Fields.{held, confidence_most, quality_most}
-use Rattle.scoring.specs.declared.Scored.{Scored}
-use Rattle.scoring.specs.declared.Scored.TheVariants.{NotAdmissible, Score}
 use Rattle.scoring.specs.Position.{position_of}
 use Rattle.scoring.specs.Score.{doppler_of, score_of}
 use Rattle.settling.specs.Settle.{speed_correction}
@@ -21,13 +19,13 @@ use Rattle.matching.specs.Answer.{check_answer}
 abbrev pub same : ℤ → ℤ → Bool
 same a b = eqb (nat_abs (a -ℤ b)) 0
 
-abbrev pub scores : ℕ → Scored → Bool
-scores n NotAdmissible = false
-scores n (Score x) = eqb x n
+abbrev pub scores : ℕ → Option ℕ → Bool
+scores n None = false
+scores n (Some x) = eqb x n
 
-abbrev pub not_admissible : Scored → Bool
-not_admissible NotAdmissible = true
-not_admissible (Score x) = false
+abbrev pub not_admissible : Option ℕ → Bool
+not_admissible None = true
+not_admissible (Some x) = false
 
 -- ---- 'Sigmas 16.'
 
@@ -44,8 +42,8 @@ abbrev pub track : (dr da speed : ℕ) → Track
 track dr da speed = record {
   range = dr;
   azimuth = da;
-  range_speed = record { v = pos speed };
-  azimuth_speed = record { v = pos 0 };
+  range_speed = pos speed;
+  azimuth_speed = pos 0;
   updates = 8;
   misses = 0;
   confidence = confidence_most;

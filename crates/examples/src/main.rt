@@ -2,14 +2,13 @@
 // written from 01. The starred ones are proved of the definitions besides (specs/Starred.antt).
 #![tactic(auto)]
 
-ghost use Rattle.std.specs.Prelude.{◌≤◌, ◌<◌, nat_abs};
-ghost use Rattle.numbers.specs.Scales.{range_most, half_turn, sectors, range_speed_most, int_end};
+ghost use Rattle.std.specs.Prelude.{◌≤◌, ◌<◌};
+ghost use Rattle.numbers.specs.Scales.{range_most, half_turn, sectors, range_speed_most};
 ghost use Rattle.records.specs.Fields.{confidence_most, quality_most, high_circle, low_circle, Sound};
 ghost use Rattle.settling.specs.Settle.{Settleable};
 
-use numbers::Int;
 use records::{Report, Site, Track};
-use scoring::Scored;
+use settling::Gains;
 use std::io;
 
 const SIGMA: u8 = 16;
@@ -20,12 +19,8 @@ fn line(rt: &HostRuntime, name: &str, value: u64) -> io::Result<()> {
     println!(rt; "{name}{value}")
 }
 
-fn signed_line(rt: &HostRuntime, name: &str, z: Int) -> io::Result<()>
-    requires { nat_abs z.v < int_end }
-{
-    let sign = if z.negative() { "-" } else { "" };
-    let magnitude = z.magnitude();
-    println!(rt; "{name}{sign}{magnitude}")
+fn signed_line(rt: &HostRuntime, name: &str, value: i64) -> io::Result<()> {
+    println!(rt; "{name}{value}")
 }
 
 fn azimuths(rt: &HostRuntime) -> io::Result<()> {
@@ -59,13 +54,11 @@ fn track(dr: u32, da: u16, speed: u32, updates: u8) -> Track
     requires { (dr ≤ range_most) × (speed ≤ range_speed_most) }
     ensures { Settleable result }
 {
-    let range_speed = numbers::whole(speed);
-    let azimuth_speed = numbers::whole(0);
     Track {
         range: dr,
         azimuth: da,
-        range_speed,
-        azimuth_speed,
+        range_speed: i64::from(speed),
+        azimuth_speed: 0,
         updates,
         misses: 0,
         confidence: records::CONFIDENCE_MOST,
@@ -107,11 +100,7 @@ fn score(dr: u32, da: u16, speed: u32, high: u8, low: u8) -> u64
         range_sigma: SIGMA,
         azimuth_sigma: SIGMA,
     };
-    let scored = scoring::score(track(dr, da, speed, UPDATES), p, site);
-    match scored {
-        Scored::NotAdmissible => 0,
-        Scored::Score(score) => score as u64,
-    }
+    u64::from(scoring::score(track(dr, da, speed, UPDATES), p, site).unwrap_or(0))
 }
 
 // The zone's digit: inner 3, outer 6, and 0 for a pair that is not admissible.
@@ -140,7 +129,7 @@ fn expected_line(rt: &HostRuntime, name: &str, circle: u8) -> io::Result<()>
     line(
         rt,
         name,
-        numbers::remainder(Int::signed(true, 300), circle as u32) as u64,
+        u64::from(numbers::remainder(-300, u32::from(circle))),
     )
 }
 
@@ -163,15 +152,11 @@ fn dopplers(rt: &HostRuntime) -> io::Result<()> {
 }
 
 fn corrections(rt: &HostRuntime) -> io::Result<()> {
-    signed_line(
-        rt,
-        "b 3, D 5, f 1 = ",
-        settling::speed_correction(Int::signed(false, 5), 3, 1),
-    )?;
+    signed_line(rt, "b 3, D 5, f 1 = ", settling::speed_correction(5, 3, 1))?;
     signed_line(
         rt,
         "b 3, D -5, f 1 = ",
-        settling::speed_correction(Int::signed(true, 5), 3, 1),
+        settling::speed_correction(-5, 3, 1),
     )
 }
 
@@ -216,25 +201,15 @@ fn waits(rt: &HostRuntime) -> io::Result<()> {
     wait_line(rt, "sector 0 to 0: j = ", 0)
 }
 
-// Which of the two gains, both in tenths: of the prediction or of the speed.
-#[derive(Clone, Copy)]
-enum Coefficient {
-    A,
-    B,
-}
-
-fn gain(of: Coefficient, updates: u8, confidence: u8, quality: u8, azimuth_degrade: u8) -> u64
+fn gain(of: Gains, updates: u8, confidence: u8, quality: u8, azimuth_degrade: u8) -> u64
     requires { (confidence ≤ confidence_most) × ((quality ≤ quality_most) × (azimuth_degrade ≤ 1)) }
 {
     let t = track(0, 0, 0, updates);
     let p = report(confidence, quality, azimuth_degrade, 0, 0);
-    match of {
-        Coefficient::A => settling::gain_a(t, p) as u64,
-        Coefficient::B => settling::gain_b(t, p) as u64,
-    }
+    u64::from(of.of(t, p))
 }
 
-fn gain_row(rt: &HostRuntime, name: &str, of: Coefficient, quality: u8) -> io::Result<()>
+fn gain_row(rt: &HostRuntime, name: &str, of: Gains, quality: u8) -> io::Result<()>
     requires { quality ≤ quality_most }
 {
     print!(rt; "{name}")?;
@@ -248,26 +223,26 @@ fn gain_row(rt: &HostRuntime, name: &str, of: Coefficient, quality: u8) -> io::R
 }
 
 fn gains(rt: &HostRuntime) -> io::Result<()> {
-    gain_row(rt, "a, quality 0 =", Coefficient::A, 0)?;
-    gain_row(rt, "a, quality 1 =", Coefficient::A, 1)?;
-    gain_row(rt, "a, quality 2 =", Coefficient::A, 2)?;
-    gain_row(rt, "a, quality 3 =", Coefficient::A, 3)?;
-    gain_row(rt, "b, quality 0 =", Coefficient::B, 0)?;
-    gain_row(rt, "b, quality 1 =", Coefficient::B, 1)?;
-    gain_row(rt, "b, quality 2 =", Coefficient::B, 2)?;
-    gain_row(rt, "b, quality 3 =", Coefficient::B, 3)?;
+    gain_row(rt, "a, quality 0 =", settling::GAINS_A, 0)?;
+    gain_row(rt, "a, quality 1 =", settling::GAINS_A, 1)?;
+    gain_row(rt, "a, quality 2 =", settling::GAINS_A, 2)?;
+    gain_row(rt, "a, quality 3 =", settling::GAINS_A, 3)?;
+    gain_row(rt, "b, quality 0 =", settling::GAINS_B, 0)?;
+    gain_row(rt, "b, quality 1 =", settling::GAINS_B, 1)?;
+    gain_row(rt, "b, quality 2 =", settling::GAINS_B, 2)?;
+    gain_row(rt, "b, quality 3 =", settling::GAINS_B, 3)?;
     line(
         rt,
         "a, azimuth-degrade 1 = ",
-        gain(Coefficient::A, UPDATES, 7, 3, 1),
+        gain(settling::GAINS_A, UPDATES, 7, 3, 1),
     )?;
     line(
         rt,
         "b, azimuth-degrade 1 = ",
-        gain(Coefficient::B, UPDATES, 7, 3, 1),
+        gain(settling::GAINS_B, UPDATES, 7, 3, 1),
     )?;
-    line(rt, "a, updates 1 = ", gain(Coefficient::A, 1, 0, 0, 1))?;
-    line(rt, "b, updates 1 = ", gain(Coefficient::B, 1, 0, 0, 1))
+    line(rt, "a, updates 1 = ", gain(settling::GAINS_A, 1, 0, 0, 1))?;
+    line(rt, "b, updates 1 = ", gain(settling::GAINS_B, 1, 0, 0, 1))
 }
 
 fn main(rt: HostRuntime) -> io::Result<()> {

@@ -13,8 +13,8 @@ abbrev pub track_at : (range azimuth range_speed azimuth_speed updates quality :
 track_at range azimuth range_speed azimuth_speed updates quality = record {
   range = range;
   azimuth = azimuth;
-  range_speed = record { v = pos range_speed };
-  azimuth_speed = record { v = pos azimuth_speed };
+  range_speed = pos range_speed;
+  azimuth_speed = pos azimuth_speed;
   updates = updates;
   misses = 0;
   confidence = 5;

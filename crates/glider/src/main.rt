@@ -104,13 +104,11 @@ fn track(
     requires { (range_speed ≤ range_speed_most) × (azimuth_speed ≤ azimuth_speed_most) }
     ensures { result ≡ bytes_of (track_at range azimuth range_speed azimuth_speed updates quality) }
 {
-    let range_speed = numbers::whole(range_speed);
-    let azimuth_speed = numbers::whole(azimuth_speed);
     records::pack(Track {
         range,
         azimuth,
-        range_speed,
-        azimuth_speed,
+        range_speed: i64::from(range_speed),
+        azimuth_speed: i64::from(azimuth_speed),
         updates,
         misses: 0,
         confidence: CONFIDENCE,

@@ -1,73 +1,52 @@
--- The rules by the sign and the size of their argument, as the code computes them.
-use Rattle.std.proofs.Common.{◌≡◌, ℕ, zero, suc, ◌+◌, ◌-◌, ◌*◌, ◌/◌, ◌%◌, ◌<◌, ◌≤◌, min, max, Bool, true, false, not, ltb, ℤ, pos, negsuc, ◌-ℤ◌, neg_ℤ, nat_abs, sym, refl, le_of_suc-le-suc, suc-mul, div-lt_iff_lt-mul, le-mul_of_pos_right, mul_left_comm, arith, ltb-false, ltb-true, le-ltb, lt-ltb}
+-- The rules in the words of the library's contracts.
+use Rattle.std.proofs.Common.{◌≡◌, ℕ, zero, suc, ◌+◌, ◌-◌, ◌*◌, ◌/◌, ◌%◌, ◌<◌, true, false, ℤ, pos, negsuc, ◌-ℤ◌, neg_ℤ, nat_abs, refl, arith, ltb-true, lt-ltb}
 use native.Mathlib.Decide.{dec_lt}
-use lib.Signed.{non_neg}
+use lib.Signed.{lt_z}
+use Rattle.std.proofs.lemmas.Int.{ints, clamps}
+use mir.Syntax.{w16}
+use mir.Val.{to_z}
+use Rattle.std.specs.Int.{int_max, int_min, int_rem_euclid}
+use lib.IntN.{+ℤ_idl}
 use Rattle.laws.proofs.Sizes.{minus_less, minus_more}
-use Rattle.numbers.specs.Scales.{turn, half_turn}
-use Rattle.numbers.specs.Whole.{signed_of, rounded, held_within, held_from_zero, remainder}
+use Rattle.numbers.specs.Scales.{turn}
+use Rattle.numbers.specs.Whole.{rounded, held_within, held_from_zero, remainder}
 use Rattle.numbers.specs.Azimuth.{signed16, azimuth_moved}
 
-pub rounded_form : (z : ℤ) (d : ℕ) → signed_of (not (non_neg z)) ((2 * nat_abs z + d) / (2 * d)) ≡ rounded z d
+-- what the machine's -z is
+from_zero : (z : ℤ) → pos 0 -ℤ z ≡ neg_ℤ z
+from_zero z = +ℤ_idl (neg_ℤ z)
+
+-- a negative number by its size, and one that is not
+pub rounded_below : (z : ℤ) (d : ℕ) → lt_z z (pos 0) ≡ true → pos 0 -ℤ pos ((2 * nat_abs z + d) / (2 * d)) ≡ rounded z d
 unfolding rounded
-rounded_form (pos n) d = refl
-rounded_form (negsuc n) d = refl
+rounded_below (pos n) d e = absurd (omega (arith, ltb-true n 0 e))
+rounded_below (negsuc n) d e = from_zero (pos ((2 * suc n + d) / (2 * d)))
 
-pub within_form : (n : ℕ) (z : ℤ) → signed_of (not (non_neg z)) (min (nat_abs z) n) ≡ held_within n z
+pub rounded_up : (z : ℤ) (d : ℕ) → lt_z z (pos 0) ≡ false → pos ((2 * nat_abs z + d) / (2 * d)) ≡ rounded z d
+unfolding rounded
+rounded_up (pos n) d e = refl
+rounded_up (negsuc n) d e = cc
+
+-- held by `clamp`, and the remainder of `rem_euclid`
+pub within_clamp : (n : ℕ) (z : ℤ) → int_max (pos 0 -ℤ pos n) (int_min z (pos n)) ≡ held_within n z
 unfolding held_within
-within_form n (pos k) = refl
-within_form n (negsuc k) = refl
+within_clamp n (pos k) = omega (arith, ints, clamps)
+within_clamp n (negsuc k) = omega (arith, ints, clamps)
 
-pub from_zero_below : (n : ℕ) (z : ℤ) → not (non_neg z) ≡ true → 0 ≡ held_from_zero n z
+pub from_zero_clamp : (n : ℕ) (z : ℤ) → nat_abs (int_max (pos 0) (int_min z (pos n))) ≡ held_from_zero n z
 unfolding held_from_zero
-from_zero_below n (pos k) e = cc
-from_zero_below n (negsuc k) e = refl
+from_zero_clamp n (pos k) = omega (arith, ints, clamps)
+from_zero_clamp n (negsuc k) = refl
 
-pub from_zero_up : (n : ℕ) (z : ℤ) → not (non_neg z) ≡ false → min (nat_abs z) n ≡ held_from_zero n z
-unfolding held_from_zero
-from_zero_up n (pos k) e = refl
-from_zero_up n (negsuc k) e = cc
-
-pub remainder_below : (z : ℤ) (m : ℕ) → not (non_neg z) ≡ true → m - 1 - (nat_abs z - 1) % m ≡ remainder z m
+pub remainder_euclid : (z : ℤ) (m : ℕ) → nat_abs (int_rem_euclid z (pos m)) ≡ remainder z m
 unfolding remainder
-remainder_below (pos a) m e = cc
-remainder_below (negsuc a) m e = rw (less a) (omega arith)
-  where
-    less : (a : ℕ) → suc a - 1 ≡ a
-    less a = omega arith
+remainder_euclid (pos a) m = refl
+remainder_euclid (negsuc a) m = omega arith
 
-pub remainder_up : (z : ℤ) (m : ℕ) → not (non_neg z) ≡ false → nat_abs z % m ≡ remainder z m
-unfolding remainder
-remainder_up (pos a) m e = refl
-remainder_up (negsuc a) m e = cc
-
-pub negative_size : (z : ℤ) → not (non_neg z) ≡ true → 0 < nat_abs z
-negative_size (pos n) e = let x : ◌≡◌ {A = ℕ} 0 1 = cc in omega arith
-negative_size (negsuc n) e = omega arith
-
--- n / d to the nearest is at most n
-pub nearest≤ : (n d : ℕ) → 0 < d → (2 * n + d) / (2 * d) ≤ n
-nearest≤ n d h =
-    let k : 2 * n + d < suc n * (2 * d) = rw (suc-mul n (2 * d), mul_left_comm n 2 d) (omega (arith, le-mul_of_pos_right n h)) in
-    le_of_suc-le-suc ((div-lt_iff_lt-mul (omega arith)).1 k)
-
-pub difference_form : (a b : ℕ) → signed_of (ltb a b) (max a b - min a b) ≡ pos a -ℤ pos b
-difference_form a b = go (ltb a b) refl
-  where
-    go : (t : Bool) → ltb a b ≡ t → signed_of t (max a b - min a b) ≡ pos a -ℤ pos b
-    go true e = let l : a < b = ltb-true a b e in let m : max a b - min a b ≡ b - a = omega arith in rw m (sym (minus_less a b l))
-    go false e = let l : b ≤ a = ltb-false a b e in let m : max a b - min a b ≡ a - b = omega arith in rw m (sym (minus_more a b l))
-
-pub signed16_low : (n : ℕ) → n < half_turn → signed_of false n ≡ signed16 n
+-- sixteen bits, as the machine reads them
+pub signed16_is : (n : ℕ) → n < turn → to_z w16 n ≡ signed16 n
 unfolding signed16
-signed16_low n h = rw (lt-ltb n half_turn h)
-
-pub signed16_high : (n : ℕ) → half_turn ≤ n → n < turn → signed_of true (turn - n) ≡ signed16 n
-unfolding signed16
-signed16_high n h k = rw (le-ltb n half_turn h) (sym (minus_less n turn k))
-
--- what wraps back to a is the difference that the rule names
-pub wrapped : (n a b : ℕ) → n < turn → a < turn → b < turn → (n + b) % turn ≡ a → n ≡ (a + turn - b) % turn
-wrapped n a b hn ha hb e = omega arith
+signed16_is n h = rw (lt-ltb n turn h)
 
 remainder_neg : (k m : ℕ) → 0 < k → remainder (neg_ℤ (pos k)) m ≡ m - suc ((k - 1) % m)
 unfolding remainder
@@ -82,7 +61,7 @@ unfolding remainder
 remainder_pos k m = refl
 
 -- a less k goes round to what a and the rest of a turn go round to
-pub round_back : (a k n : ℕ) → (a + n) % turn ≡ (a + (turn - suc (k % turn))) % turn → (a + n) % turn ≡ remainder (pos a -ℤ pos (suc k)) turn
+round_back : (a k n : ℕ) → (a + n) % turn ≡ (a + (turn - suc (k % turn))) % turn → (a + n) % turn ≡ remainder (pos a -ℤ pos (suc k)) turn
 round_back a k n e = go (dec_lt a (suc k))
   where
     go : Dec (a < suc k) → (a + n) % turn ≡ remainder (pos a -ℤ pos (suc k)) turn

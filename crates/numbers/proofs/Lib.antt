@@ -1,5 +1,4 @@
--- Laws of the numbers: what the machine's bits say, the code's forms of the rules, and what callers cite.
-pub mod Machine
+-- Laws of the numbers: the rules in the library's words, and what callers cite.
 pub mod Forms
 pub mod WholeLaws
 pub mod AzimuthLaws

@@ -1,20 +1,10 @@
 -- What callers count on of rounding, holding, remainders and circular distance.
-use Rattle.std.proofs.Common.{◌≡◌, ℕ, zero, suc, ◌+◌, ◌-◌, ◌*◌, ◌/◌, ◌%◌, ◌<◌, ◌≤◌, min, max, ◌⊎◌, ℤ, pos, negsuc, ◌-ℤ◌, ◌*ℤ◌, neg_ℤ, nat_abs, sym, refl, ap, inl, inr, ⊎_elim, le_of_lt, mod-lt, mod-eq_of_lt, mul_assoc, mul-suc, arith}
+use Rattle.std.proofs.Common.{◌≡◌, ℕ, zero, suc, ◌+◌, ◌-◌, ◌*◌, ◌/◌, ◌%◌, ◌<◌, ◌≤◌, min, max, ◌⊎◌, ℤ, pos, negsuc, ◌-ℤ◌, ◌*ℤ◌, neg_ℤ, nat_abs, sym, refl, inl, inr, ⊎_elim, le_of_lt, mod-lt, mod-eq_of_lt, mul_assoc, mul-suc, arith}
 use native.Mathlib.Nat.{mod-le, div-add-mod, mod-eq-sub-mod, add-mul-mod_self_right}
 use native.Mathlib.Decide.{dec_lt}
 use lib.IntN.{pos-*ℤ-negsuc}
 use Rattle.laws.proofs.Sizes.{neg_size, difference_size, neg_difference_size, neg_minus, times_neg, minus_more}
-use Rattle.numbers.specs.declared.Int.{Int}
 use Rattle.numbers.specs.Whole.{rounded, held_within, held_from_zero, remainder, circular_distance}
-
--- ---- a number in its struct
-
-abbrev pub int_of : ℤ → Int
-int_of z = record { v = z }
-
--- the struct is known by its number
-pub int_is : {x : Int} {z : ℤ} → x.v ≡ z → x ≡ int_of z
-int_is e = ap int_of e
 
 -- ---- rounding
 

@@ -1,5 +1,5 @@
 -- The scales of ranges, azimuths, sectors and waits (01, 'Numbers carried' and 'After pairing'), each number named once.
-use Rattle.std.specs.Prelude.{ℕ, ◌^◌}
+use Rattle.std.specs.Prelude.{ℕ}
 
 -- the largest range, 65 nautical miles in 1/1024
 abbrev pub range_most : ℕ
@@ -29,7 +29,3 @@ azimuth_speed_most = 8192
 -- a track served or started is due again this many calls later at the soonest, and less than a whole turn after that
 abbrev pub soonest : ℕ
 soonest = 16
-
--- 64 bits hold every number whose size is below this
-abbrev pub int_end : ℕ
-int_end = 2 ^ 63

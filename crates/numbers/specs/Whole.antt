@@ -1,10 +1,5 @@
 -- Whole numbers with a sign (01, 'A pair' and 'After pairing').
-use Rattle.std.specs.Prelude.{ℕ, suc, ◌+◌, ◌-◌, ◌*◌, ◌/◌, ◌%◌, min, max, Bool, true, false, ℤ, pos, negsuc, neg_ℤ}
-
--- m, or -m
-abbrev pub signed_of : Bool → ℕ → ℤ
-signed_of false m = pos m
-signed_of true m = neg_ℤ (pos m)
+use Rattle.std.specs.Prelude.{ℕ, suc, ◌+◌, ◌-◌, ◌*◌, ◌/◌, ◌%◌, min, max, ℤ, pos, negsuc, neg_ℤ}
 
 -- z / d, rounded to nearest, halves away from zero
 unfoldable pub rounded : ℤ → ℕ → ℤ

@@ -15,7 +15,7 @@ use Rattle.records.specs.declared.Track.{Track}
 use Rattle.records.specs.declared.Report.{Report}
 use Rattle.records.specs.Fields.{free, held, is_weak, allowance}
 use Rattle.records.specs.Bytes.{freed, mark_at, wait_at, track_of, bytes_of, report_of, slot_due, is_free, is_held}
-use Rattle.settling.specs.declared.Missed.TheVariants.{Coasts, Dropped}
+use Rattle.std.specs.Prelude.{Some, None}
 use Rattle.settling.specs.Settle.{updated_of, coasted_of, without_pair, started_of, aged_of}
 use Rattle.matching.specs.Pairing.{none}
 use Rattle.intake.specs.Refusals.{Input, due_slots}
@@ -71,11 +71,11 @@ missed_mark : (t : Track) (s : ℕ) → (coasted_of t s).mark ≡ held
 unfolding coasted_of
 missed_mark t s = refl
 
-kept_one : (t : Track) → t.mark ≡ held → one (missed_bytes (Coasts t)) + dropped_one (Coasts t) ≡ 1
+kept_one : (t : Track) → t.mark ≡ held → one (missed_bytes (Some t)) + dropped_one (Some t) ≡ 1
 unfolding missed_bytes dropped_one
 kept_one t e = rw (held_bytes t e)
 
-dropped_one_lem : one (missed_bytes Dropped) + dropped_one Dropped ≡ 1
+dropped_one_lem : one (missed_bytes None) + dropped_one None ≡ 1
 unfolding missed_bytes dropped_one
 dropped_one_lem = rw freed_not_held
 
@@ -84,7 +84,7 @@ missed_held : (s : ℕ) (slot : List ℕ) → one (missed_slot s slot) + dropped
 unfolding missed_slot without_pair
 missed_held s slot = go (ltb (allowance (track_of slot).updates) ((track_of slot).misses + 1))
   where
-    go : (b : Bool) → one (missed_bytes (cond b Dropped (Coasts (coasted_of (track_of slot) s)))) + dropped_one (cond b Dropped (Coasts (coasted_of (track_of slot) s))) ≡ 1
+    go : (b : Bool) → one (missed_bytes (cond b None (Some (coasted_of (track_of slot) s)))) + dropped_one (cond b None (Some (coasted_of (track_of slot) s))) ≡ 1
     go true = dropped_one_lem
     go false = kept_one (coasted_of (track_of slot) s) (missed_mark (track_of slot) s)
 

@@ -5,8 +5,7 @@ use mathlib.Core.List.{List, []}
 use native.Mathlib.Omega.{arith}
 use lib.ListN.{length, get_or}
 use Rattle.records.specs.Bytes.{report_of}
-use Rattle.scoring.specs.declared.Scored.{Scored}
-use Rattle.scoring.specs.declared.Scored.TheVariants.{NotAdmissible, Score}
+use Rattle.std.specs.Prelude.{Option, Some, None}
 use Rattle.scoring.specs.Score.{score_of}
 use Rattle.scoring.proofs.ScoreLaws.{score_below}
 use Rattle.laws.specs.Lists.{at}
@@ -21,15 +20,15 @@ use Rattle.promises.proofs.Calls.{best_of_the_sector}
 
 -- ---- admissible
 
-admissible_score : (i : Input) (rank j : ℕ) (s : Scored) → score_of (due_track i rank) (report_of (get_or i.batch j [])) i.site ≡ s → (s ≡ NotAdmissible → ⊥) → cell_of s ≡ none → ⊥
+admissible_score : (i : Input) (rank j : ℕ) (s : Option ℕ) → score_of (due_track i rank) (report_of (get_or i.batch j [])) i.site ≡ s → (s ≡ None → ⊥) → cell_of s ≡ none → ⊥
 unfolding cell_of
-admissible_score i rank j NotAdmissible e a z = a refl
-admissible_score i rank j (Score x) e a z =
+admissible_score i rank j None e a z = a refl
+admissible_score i rank j (Some x) e a z =
     let b : x < score_end = score_below (due_track i rank) (report_of (get_or i.batch j [])) i.site x e in
     omega arith
 
 -- A pair is admissible in the sector's sheet exactly when the rules of a pair's zones admit it.
-pub admissible_exactly_when : (i : Input) (rank j : ℕ) → rank < tracks_of i → j < reports_of i → (Admissible (sector_sheet i) rank j → score_of (due_track i rank) (report_of (get_or i.batch j [])) i.site ≡ NotAdmissible → ⊥) × ((score_of (due_track i rank) (report_of (get_or i.batch j [])) i.site ≡ NotAdmissible → ⊥) → Admissible (sector_sheet i) rank j)
+pub admissible_exactly_when : (i : Input) (rank j : ℕ) → rank < tracks_of i → j < reports_of i → (Admissible (sector_sheet i) rank j → score_of (due_track i rank) (report_of (get_or i.batch j [])) i.site ≡ None → ⊥) × ((score_of (due_track i rank) (report_of (get_or i.batch j [])) i.site ≡ None → ⊥) → Admissible (sector_sheet i) rank j)
 unfolding cell_of
 admissible_exactly_when i rank j a b = (
   (λ w e. w (cell_is i rank j a b ∙ ap cell_of e)),

@@ -7,8 +7,7 @@ use native.Mathlib.Omega.{arith}
 use lib.ListN.{length, get_or, length-append, get_or-append}
 use lib.Seq.{get_or-append-add}
 use Rattle.records.specs.Bytes.{track_of, report_of}
-use Rattle.scoring.specs.declared.Scored.{Scored}
-use Rattle.scoring.specs.declared.Scored.TheVariants.{NotAdmissible, Score}
+use Rattle.std.specs.Prelude.{Option, Some, None}
 use Rattle.scoring.specs.Score.{digits_end, score_of}
 use Rattle.scoring.proofs.ScoreLaws.{score_below}
 use Rattle.matching.specs.Pairing.{none, score_end, InRange}
@@ -48,10 +47,10 @@ unfolding sector_sheet cells_of tracks_of reports_of pair_cell
 cell_is i rank j hr hj = rows_at i (due_slots i.table) rank j hr hj
 
 -- an admissible pair's cell is a score
-cell_below : (s : Scored) → ((x : ℕ) → s ≡ Score x → x < digits_end) → (cell_of s ≡ none → ⊥) → cell_of s < score_end
+cell_below : (s : Option ℕ) → ((x : ℕ) → s ≡ Some x → x < digits_end) → (cell_of s ≡ none → ⊥) → cell_of s < score_end
 unfolding cell_of
-cell_below NotAdmissible h n = absurd (n refl)
-cell_below (Score x) h n = h x refl
+cell_below None h n = absurd (n refl)
+cell_below (Some x) h n = h x refl
 
 -- few enough tracks, and each admissible pair of a sector's own sheet has a score
 pub sheet_in_range : (i : Input) → Ready i → InRange (sector_sheet i)

@@ -1,18 +1,16 @@
 -- A sector's score sheet: due tracks in slot order, reports in batch order, cells row by row (01, 'Pairing').
-use Rattle.std.specs.Prelude.{ℕ, List, [], ◌∷◌, ◌++◌, map, length, get_or}
+use Rattle.std.specs.Prelude.{ℕ, List, [], ◌∷◌, ◌++◌, map, length, get_or, Option, Some, None}
 use Rattle.records.specs.declared.Track.{Track}
 use Rattle.records.specs.declared.Site.{Site}
 use Rattle.records.specs.Bytes.{track_of, report_of}
-use Rattle.scoring.specs.declared.Scored.{Scored}
-use Rattle.scoring.specs.declared.Scored.TheVariants.{NotAdmissible, Score}
 use Rattle.scoring.specs.Score.{score_of}
 use Rattle.matching.specs.Pairing.{none, Sheet, sheet_of}
 use Rattle.intake.specs.Refusals.{Input, due_slots}
 
 -- what a cell says of a pair
-unfoldable pub cell_of : Scored → ℕ
-cell_of NotAdmissible = none
-cell_of (Score score) = score
+unfoldable pub cell_of : Option ℕ → ℕ
+cell_of None = none
+cell_of (Some score) = score
 
 -- the cell of a track and a report
 unfoldable pub pair_cell : Track → Site → List ℕ → ℕ

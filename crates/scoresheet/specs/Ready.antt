@@ -8,7 +8,7 @@ use Rattle.intake.specs.Refusals.{Input, due_slots}
 
 pub record RowReady (t : Track) (batch : List (List ℕ)) (row : List ℕ) : Type 0 where
   pub range_in : t.range ≤ range_most
-  pub speed_in : nat_abs t.range_speed.v ≤ range_speed_most
+  pub speed_in : nat_abs t.range_speed ≤ range_speed_most
   pub sound : (j : ℕ) → j < length batch → Sound (report_of (get_or batch j []))
   pub room : length row ≡ length batch
 

@@ -8,7 +8,6 @@ ghost use Rattle.scoresheet.specs.Call.{sheeted_of, sheet_after};
 ghost use Rattle.scoresheet.specs.Ready.{RowReady, RowsReady};
 
 use records::{Site, Track};
-use scoring::Scored;
 
 #[derive(Clone, Copy)]
 pub enum Sheeted {
@@ -16,13 +15,11 @@ pub enum Sheeted {
     Sheet(usize, usize),
 }
 
-fn cell(s: Scored) -> u32
+#[tactic(auto, unfolding(crate::specs::Cells::cell_of))]
+fn cell(s: Option<u32>) -> u32
     ensures { result ≡ cell_of s }
 {
-    match s {
-        Scored::NotAdmissible => matching::NONE,
-        Scored::Score(score) => score,
-    }
+    s.unwrap_or(matching::NONE)
 }
 
 // The row of a track, a cell a report.

@@ -15,8 +15,8 @@ abbrev pub young : Track
 young = record {
   range = 10821;
   azimuth = 1000;
-  range_speed = record { v = pos 0 };
-  azimuth_speed = record { v = pos 0 };
+  range_speed = pos 0;
+  azimuth_speed = pos 0;
   updates = 1;
   misses = 0;
   confidence = 7;

@@ -8,7 +8,7 @@ use Rattle.records.specs.declared.Track.{Track}
 use Rattle.records.specs.declared.Report.{Report}
 use Rattle.records.specs.declared.Site.{Site}
 use Rattle.records.specs.Fields.{growing_from, mature_from, sure_confidence, sure_quality}
-use Rattle.scoring.specs.declared.Scored.TheVariants.{NotAdmissible, Score}
+use Rattle.std.specs.Prelude.{Some, None}
 use Rattle.scoring.specs.Zone.{range_off, azimuth_off, within_sigmas, inner_sigmas, within_outer, inner_digit, outer_digit, zone_of}
 use Rattle.scoring.specs.Score.{pair_position, one_unless, doppler_agrees, doppler_of, new_age, growing_age, updates_age, age_of, confidence_trust, quality_trust, trust_of, digits_end, worth_of, score_of}
 use Rattle.scoring.proofs.PositionLaws.{position_most_lem}
@@ -69,13 +69,13 @@ worth_below t p site =
     omega (arith, zone_most t p site, position_most_lem (range_off t p) (azimuth_off t p) site.range_sigma site.azimuth_sigma, one_unless_most (doppler_agrees t p), updates_age_most t.updates, one_unless_most (eqb t.misses 0), confidence_most_lem t p, quality_most_lem t p)
 
 -- every score is below 2,097,152
-pub score_below : (t : Track) (p : Report) (site : Site) (x : ℕ) → score_of t p site ≡ Score x → x < digits_end
+pub score_below : (t : Track) (p : Report) (site : Site) (x : ℕ) → score_of t p site ≡ Some x → x < digits_end
 unfolding score_of
 score_below t p site x e = go (eqb (zone_of t p site) 0) e
   where
-    go : (b : Bool) → cond b NotAdmissible (Score (worth_of t p site)) ≡ Score x → x < digits_end
+    go : (b : Bool) → cond b None (Some (worth_of t p site)) ≡ Some x → x < digits_end
     go true e = absurd (never e)
       where
-        never : NotAdmissible ≡ Score x → ⊥
+        never : None ≡ Some x → ⊥
         never e = let z : ◌≡◌ {A = ℕ} 0 1 = cc in omega arith
     go false e = let same : worth_of t p site ≡ x = cc in omega (arith, worth_below t p site)

@@ -1,13 +1,11 @@
 -- The score of a pair: seven octal digits (01, 'A pair'; 002, radar-only).
-use Rattle.std.specs.Prelude.{ℕ, ◌+◌, ◌*◌, ◌^◌, ◌≤◌, ◌<◌, Bool, not, cond, ◌&&◌, leb, ltb, eqb, nat_abs}
+use Rattle.std.specs.Prelude.{ℕ, ◌+◌, ◌*◌, ◌^◌, ◌≤◌, ◌<◌, Bool, not, cond, ◌&&◌, leb, ltb, eqb, nat_abs, Option, Some, None}
 use Rattle.numbers.specs.Scales.{range_most, range_speed_most}
 use Rattle.numbers.specs.Whole.{remainder, circular_distance}
 use Rattle.records.specs.declared.Track.{Track}
 use Rattle.records.specs.declared.Report.{Report}
 use Rattle.records.specs.declared.Site.{Site}
 use Rattle.records.specs.Fields.{high_circle, low_circle, growing_from, mature_from, sure_confidence, sure_quality, is_weak}
-use Rattle.scoring.specs.declared.Scored.{Scored}
-use Rattle.scoring.specs.declared.Scored.TheVariants.{NotAdmissible, Score}
 use Rattle.scoring.specs.Zone.{range_off, azimuth_off, zone_of}
 use Rattle.scoring.specs.Position.{position_of}
 
@@ -15,7 +13,7 @@ use Rattle.scoring.specs.Position.{position_of}
 pub record Scorable (t : Track) (p : Report) : Type 0 where
   pub predicted : t.range ≤ range_most
   pub reported : p.range ≤ range_most
-  pub speed : nat_abs t.range_speed.v ≤ range_speed_most
+  pub speed : nat_abs t.range_speed ≤ range_speed_most
   pub high : p.high < high_circle
   pub low : p.low < low_circle
 
@@ -32,7 +30,7 @@ doppler_tolerance = 12
 
 -- range speed mod the circle, taken non-negative, lies within 12 of the report's Doppler, the short way round
 unfoldable pub doppler_near : ℕ → Track → ℕ → Bool
-doppler_near circle t doppler = leb (circular_distance circle (remainder t.range_speed.v circle) doppler) doppler_tolerance
+doppler_near circle t doppler = leb (circular_distance circle (remainder t.range_speed circle) doppler) doppler_tolerance
 
 -- it disagrees if azimuth-degrade is 1, confidence is under 3 or quality under 2: the report is weak; otherwise both must lie near
 unfoldable pub doppler_agrees : Track → Report → Bool
@@ -92,5 +90,6 @@ digits_end = 8 ^ 7
 unfoldable pub worth_of : Track → Report → Site → ℕ
 worth_of t p site = digits_worth (zone_of t p site) (pair_position t p site) (doppler_of t p) (age_of t) (trust_of t p)
 
-unfoldable pub score_of : Track → Report → Site → Scored
-score_of t p site = cond (eqb (zone_of t p site) 0) NotAdmissible (Score (worth_of t p site))
+-- none for a pair that is not admissible
+unfoldable pub score_of : Track → Report → Site → Option ℕ
+score_of t p site = cond (eqb (zone_of t p site) 0) None (Some (worth_of t p site))

@@ -1,5 +1,5 @@
 -- The zone of a pair (01, 'A pair'): dr and da are predicted minus reported, range and azimuth.
-use Rattle.std.specs.Prelude.{ℕ, ◌+◌, ◌*◌, ◌/◌, min, max, Bool, cond, ◌&&◌, leb, ltb, nat_abs}
+use Rattle.std.specs.Prelude.{ℕ, ◌+◌, ◌*◌, ◌/◌, min, max, Bool, cond, ◌&&◌, leb, ltb, eqb, nat_abs, Option, Some, None}
 use Rattle.numbers.specs.Scales.{range_speed_most, azimuth_speed_most}
 use Rattle.records.specs.declared.Track.{Track}
 use Rattle.records.specs.declared.Report.{Report}
@@ -54,3 +54,7 @@ outer_digit = 6
 
 unfoldable pub zone_of : Track → Report → Site → ℕ
 zone_of t p site = cond (within_sigmas inner_sigmas t p site) inner_digit (cond (within_outer t p site) outer_digit 0)
+
+-- the digit of an admissible pair alone
+unfoldable pub zone_digit : Track → Report → Site → Option ℕ
+zone_digit t p site = cond (eqb (zone_of t p site) 0) None (Some (zone_of t p site))

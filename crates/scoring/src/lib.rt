@@ -3,9 +3,9 @@
 
 ghost use Rattle.std.specs.Prelude.{◌≡◌, cond, ◌+◌, ◌-◌, ◌*◌, ◌^◌, ◌≤◌, ◌<◌, max, leb, nat_abs};
 ghost use Rattle.numbers.specs.Scales.{range_most, half_turn, range_speed_most};
-ghost use Rattle.scoring.specs.Zone.{range_off, azimuth_off, within_sigmas, outer_sigmas, azimuth_reach, within_reach, within_outer, zone_of};
+ghost use Rattle.scoring.specs.Zone.{range_off, azimuth_off, within_sigmas, outer_sigmas, azimuth_reach, within_reach, within_outer, zone_digit};
 ghost use Rattle.scoring.specs.Position.{square, position_most, position_of};
-ghost use Rattle.scoring.specs.Score.{Scorable, one_unless, doppler_near, doppler_agrees, updates_age, age_of, confidence_trust, quality_trust, trust_of};
+ghost use Rattle.scoring.specs.Score.{Scorable, doppler_near, doppler_agrees, doppler_of, updates_age, age_of, confidence_trust, quality_trust, trust_of};
 ghost use Rattle.scoring.specs.Score.{digits_worth, digits_end, score_of};
 
 use records::{Report, Site, Track};
@@ -28,7 +28,7 @@ const POSITION_MOST: u64 = 511;
 // The position counts quarter sigmas to the nearest, so that its rule compares squares of eighths.
 const EIGHTHS_SQUARED: u64 = 64;
 
-const DOPPLER_TOLERANCE: u64 = 12;
+const DOPPLER_TOLERANCE: u32 = 12;
 
 // The age's digit, but for the misses; that of a mature track is 0.
 const NEW_AGE: u32 = 4;
@@ -44,71 +44,61 @@ pub const DOPPLER_WORTH: u32 = 64;
 
 const AGE_WORTH: u32 = 8;
 
-#[derive(Clone, Copy)]
-pub enum Scored {
-    NotAdmissible,
-    Score(u32),
-}
-
 // |dr|, predicted less reported.
+#[tactic(auto, using(laws::proofs::Sizes::difference_size), unfolding(crate::specs::Zone::range_off))]
 fn range_off(t: Track, p: Report) -> u64
     ensures { (result ≡ range_off t p) × (result ≤ max t.range p.range) }
 {
-    numbers::difference(t.range, p.range).magnitude()
+    u64::from(t.range.abs_diff(p.range))
 }
 
 // |da|, across north or not.
+#[tactic(auto, unfolding(crate::specs::Zone::azimuth_off))]
 fn azimuth_off(t: Track, p: Report) -> u64
     ensures { (result ≡ azimuth_off t p) × (result ≤ half_turn) }
 {
-    numbers::azimuth_difference(t.azimuth, p.azimuth).magnitude()
+    numbers::azimuth_difference(t.azimuth, p.azimuth).unsigned_abs()
 }
 
 fn by_sigma(x: u64, sigma: u8) -> u64
     requires { x < 2 ^ 32 }
     ensures { result ≡ x * sigma }
 {
-    x * (sigma as u64)
+    x * u64::from(sigma)
 }
 
 // Range first: it is the cheaper of the two.
+#[tactic(auto, unfolding(crate::specs::Zone::within_sigmas))]
 fn within_sigmas(n: u32, t: Track, p: Report, site: Site) -> bool
     ensures { result ≡ within_sigmas n t p site }
 {
-    if by_sigma(n as u64, site.range_sigma) < range_off(t, p) {
-        return false;
-    }
-    azimuth_off(t, p) <= by_sigma(n as u64, site.azimuth_sigma)
+    range_off(t, p) <= by_sigma(u64::from(n), site.range_sigma)
+        && azimuth_off(t, p) <= by_sigma(u64::from(n), site.azimuth_sigma)
 }
 
 fn outer_sigmas(t: Track) -> u32
     ensures { result ≡ outer_sigmas t }
 {
-    STEADY_SIGMAS + MISS_SIGMAS * (t.misses as u32)
+    STEADY_SIGMAS + MISS_SIGMAS * u32::from(t.misses)
 }
 
 // How far across a track of one update may have gone.
+#[tactic(auto, unfolding(crate::specs::Zone::azimuth_reach))]
 fn azimuth_reach(range: u32) -> u64
     ensures { result ≡ azimuth_reach range }
 {
-    if range == 0 {
-        return numbers::AZIMUTH_SPEED_MOST as u64;
-    }
-    numbers::lesser(
-        numbers::AZIMUTH_SPEED_MOST as u64,
-        (CROSS_REACH / range) as u64,
-    )
+    u64::from(numbers::AZIMUTH_SPEED_MOST.min(CROSS_REACH / range.max(1)))
 }
 
+#[tactic(auto, unfolding(crate::specs::Zone::within_reach))]
 fn within_reach(t: Track, p: Report) -> bool
     ensures { result ≡ within_reach t p }
 {
-    if (numbers::RANGE_SPEED_MOST as u64) < range_off(t, p) {
-        return false;
-    }
-    azimuth_off(t, p) <= azimuth_reach(t.range)
+    range_off(t, p) <= u64::from(numbers::RANGE_SPEED_MOST)
+        && azimuth_off(t, p) <= azimuth_reach(t.range)
 }
 
+#[tactic(auto, unfolding(crate::specs::Zone::within_outer))]
 fn within_outer(t: Track, p: Report, site: Site) -> bool
     ensures { result ≡ within_outer t p site }
 {
@@ -118,17 +108,18 @@ fn within_outer(t: Track, p: Report, site: Site) -> bool
     within_reach(t, p)
 }
 
-// The zone's digit, 0 for a pair that is not admissible.
-fn zone(t: Track, p: Report, site: Site) -> u32
-    ensures { result ≡ zone_of t p site }
+// The zone's digit; None for a pair that is not admissible.
+#[tactic(auto, unfolding(crate::specs::Zone::zone_digit, crate::specs::Zone::zone_of))]
+fn zone(t: Track, p: Report, site: Site) -> Option<u32>
+    ensures { result ≡ zone_digit t p site }
 {
     if within_sigmas(INNER_SIGMAS, t, p, site) {
-        return INNER_DIGIT;
+        return Some(INNER_DIGIT);
     }
     if within_outer(t, p, site) {
-        return OUTER_DIGIT;
+        return Some(OUTER_DIGIT);
     }
-    0
+    None
 }
 
 fn square(x: u64) -> u64
@@ -173,36 +164,37 @@ pub fn position_number(dr: u64, da: u64, range_sigma: u8, azimuth_sigma: u8) -> 
     low as u32
 }
 
-fn one_unless(b: bool) -> u32
-    ensures { (result ≡ one_unless b) × (result ≤ 1) }
-{
-    if b { 0 } else { 1 }
-}
-
 // Whether the Doppler that the track's range speed leads to on this circle is the one that was reported.
+#[tactic(auto, unfolding(crate::specs::Score::doppler_near))]
 fn doppler_near(circle: u8, t: Track, doppler: u8) -> bool
-    requires { (nat_abs t.range_speed.v ≤ range_speed_most) × (doppler < circle) }
+    requires { (nat_abs t.range_speed ≤ range_speed_most) × (doppler < circle) }
     ensures { result ≡ doppler_near circle t doppler }
 {
-    let speed = t.range_speed;
-    let around = circle as u32;
-    numbers::circular_distance(around, numbers::remainder(speed, around), doppler as u32)
-        <= DOPPLER_TOLERANCE
+    let around = u32::from(circle);
+    let expected = numbers::remainder(t.range_speed, around);
+    numbers::circular_distance(around, expected, u32::from(doppler)) <= DOPPLER_TOLERANCE
 }
 
+#[tactic(auto, unfolding(crate::specs::Score::doppler_agrees))]
 fn doppler_agrees(t: Track, p: Report) -> bool
     requires { Scorable t p }
     ensures { result ≡ doppler_agrees t p }
 {
-    if records::is_weak(p) {
-        return false;
-    }
-    if !doppler_near(records::HIGH_CIRCLE, t, p.high) {
-        return false;
-    }
-    doppler_near(records::LOW_CIRCLE, t, p.low)
+    !records::is_weak(p)
+        && doppler_near(records::HIGH_CIRCLE, t, p.high)
+        && doppler_near(records::LOW_CIRCLE, t, p.low)
 }
 
+// The Doppler's digit.
+#[tactic(auto, unfolding(crate::specs::Score::doppler_of))]
+fn doppler(t: Track, p: Report) -> u32
+    requires { Scorable t p }
+    ensures { result ≡ doppler_of t p }
+{
+    u32::from(!doppler_agrees(t, p))
+}
+
+#[tactic(auto, unfolding(crate::specs::Score::updates_age))]
 fn updates_age(updates: u8) -> u32
     ensures { result ≡ updates_age updates }
 {
@@ -215,26 +207,31 @@ fn updates_age(updates: u8) -> u32
     0
 }
 
+#[tactic(auto, using(crate::proofs::ScoreLaws::updates_age_most), unfolding(crate::specs::Score::age_of))]
 fn age(t: Track) -> u32
     ensures { result ≡ age_of t }
 {
-    updates_age(t.updates) + one_unless(t.misses == 0)
+    updates_age(t.updates) + u32::from(t.misses != 0)
 }
 
 // Two where the report's confidence is low, one more where the track's is.
+#[tactic(auto, unfolding(crate::specs::Score::confidence_trust, records::specs::Fields::sure_confidence, records::specs::Fields::sure_quality))]
 fn confidence_trust(t: Track, p: Report) -> u32
     ensures { result ≡ confidence_trust t p }
 {
-    2 * one_unless(records::sure_confidence(p.confidence))
-        + one_unless(records::sure_confidence(t.confidence))
+    2 * u32::from(p.confidence < records::SURE_CONFIDENCE_FROM)
+        + u32::from(t.confidence < records::SURE_CONFIDENCE_FROM)
 }
 
+#[tactic(auto, unfolding(crate::specs::Score::quality_trust, records::specs::Fields::sure_confidence, records::specs::Fields::sure_quality))]
 fn quality_trust(t: Track, p: Report) -> u32
     ensures { result ≡ quality_trust t p }
 {
-    one_unless(records::sure_quality(p.quality)) + one_unless(records::sure_quality(t.quality))
+    u32::from(p.quality < records::SURE_QUALITY_FROM)
+        + u32::from(t.quality < records::SURE_QUALITY_FROM)
 }
 
+#[tactic(auto, using(crate::proofs::ScoreLaws::confidence_most_lem, crate::proofs::ScoreLaws::quality_most_lem), unfolding(crate::specs::Score::trust_of))]
 fn trust(t: Track, p: Report) -> u32
     ensures { result ≡ trust_of t p }
 {
@@ -252,21 +249,18 @@ fn worth(zone: u32, position: u32, doppler: u32, age: u32, trust: u32) -> u32
         + trust
 }
 
-// The position number, which costs most, is computed for admissible pairs only.
-pub fn score(t: Track, p: Report, site: Site) -> Scored
+// None: not admissible. The position number, which costs most, is computed for admissible pairs only.
+#[tactic(auto, using(crate::proofs::ScoreLaws::worth_below), unfolding(crate::specs::Score::score_of, crate::specs::Zone::zone_digit, crate::specs::Score::worth_of, crate::specs::Score::pair_position))]
+pub fn score(t: Track, p: Report, site: Site) -> Option<u32>
     requires { Scorable t p }
     ensures { result ≡ score_of t p site }
 {
-    let zone = zone(t, p, site);
-    if zone == 0 {
-        return Scored::NotAdmissible;
-    }
+    let zone = zone(t, p, site)?;
     let position = position_number(
         range_off(t, p),
         azimuth_off(t, p),
         site.range_sigma,
         site.azimuth_sigma,
     );
-    let doppler = one_unless(doppler_agrees(t, p));
-    Scored::Score(worth(zone, position, doppler, age(t), trust(t, p)))
+    Some(worth(zone, position, doppler(t, p), age(t), trust(t, p)))
 }

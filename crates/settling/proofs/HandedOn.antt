@@ -15,7 +15,7 @@ use Rattle.records.specs.declared.Track.{Track}
 use Rattle.records.specs.declared.Report.{Report}
 use Rattle.records.specs.Fields.{allowance, WellFormed, Sound}
 use Rattle.records.specs.Bytes.{wait_at, bytes_of}
-use Rattle.settling.specs.declared.Missed.TheVariants.{Coasts, Dropped}
+use Rattle.std.specs.Prelude.{Some, None}
 use Rattle.settling.specs.Settle.{Settleable, updates_most, new_speed, range_ahead, azimuth_ahead, updated_range, updated_azimuth, updated_range_speed, updated_azimuth_speed, updated_of, coasted_of, without_pair, started_of, aged_of}
 use Rattle.settling.proofs.Waits.{waits, wait_is, wait_latest}
 
@@ -69,11 +69,11 @@ unfolding updated_of
 updated_updates t p s = refl
 
 -- a due track without a pair is kept while one more miss is allowed
-pub coasted_keeps : (t : Track) (s : ℕ) → t.misses + 1 ≤ allowance t.updates → without_pair t s ≡ Coasts (coasted_of t s)
+pub coasted_keeps : (t : Track) (s : ℕ) → t.misses + 1 ≤ allowance t.updates → without_pair t s ≡ Some (coasted_of t s)
 unfolding without_pair
 coasted_keeps t s h = rw (le-ltb (allowance t.updates) (t.misses + 1) h)
 
-pub coasted_drops : (t : Track) (s : ℕ) → allowance t.updates < t.misses + 1 → without_pair t s ≡ Dropped
+pub coasted_drops : (t : Track) (s : ℕ) → allowance t.updates < t.misses + 1 → without_pair t s ≡ None
 unfolding without_pair
 coasted_drops t s h = rw (lt-ltb (allowance t.updates) (t.misses + 1) h)
 
@@ -95,11 +95,11 @@ missed_served t s h w l = record {
   again = wait_is s _;
 }
 
-pub coasted_served : (t kept : Track) (s : ℕ) → s < sectors → WellFormed t s → without_pair t s ≡ Coasts kept → ServedTrack kept s
+pub coasted_served : (t kept : Track) (s : ℕ) → s < sectors → WellFormed t s → without_pair t s ≡ Some kept → ServedTrack kept s
 unfolding without_pair
 coasted_served t kept s h w e = go (ltb (allowance t.updates) (t.misses + 1)) refl e
   where
-    go : (b : Bool) → ltb (allowance t.updates) (t.misses + 1) ≡ b → cond b Dropped (Coasts (coasted_of t s)) ≡ Coasts kept → ServedTrack kept s
+    go : (b : Bool) → ltb (allowance t.updates) (t.misses + 1) ≡ b → cond b None (Some (coasted_of t s)) ≡ Some kept → ServedTrack kept s
     go true l q = let z : ◌≡◌ {A = ℕ} 0 1 = cc in omega arith
     go false l q =
         let k : coasted_of t s ≡ kept = cc in

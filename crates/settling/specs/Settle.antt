@@ -1,5 +1,5 @@
 -- Update, coast, drop, start and ageing of one track (01, 'After pairing').
-use Rattle.std.specs.Prelude.{ℕ, ◌+◌, ◌-◌, ◌*◌, ◌≤◌, min, cond, ltb, ℤ, pos, neg_ℤ, nat_abs, ◌+ℤ◌, ◌-ℤ◌, ◌*ℤ◌}
+use Rattle.std.specs.Prelude.{ℕ, ◌+◌, ◌-◌, ◌*◌, ◌≤◌, min, cond, ltb, ℤ, pos, neg_ℤ, nat_abs, ◌+ℤ◌, ◌-ℤ◌, ◌*ℤ◌, Option, Some, None}
 use Rattle.numbers.specs.Scales.{range_most, range_speed_most, azimuth_speed_most}
 use Rattle.numbers.specs.Whole.{rounded, held_within, held_from_zero}
 use Rattle.numbers.specs.Azimuth.{azimuth_moved}
@@ -7,16 +7,14 @@ use Rattle.numbers.specs.Sectors.{sector_of, calls_ahead}
 use Rattle.records.specs.declared.Track.{Track}
 use Rattle.records.specs.declared.Report.{Report}
 use Rattle.records.specs.Fields.{held, updates_at_start, allowance, range_d, azimuth_d}
-use Rattle.settling.specs.declared.Missed.{Missed}
-use Rattle.settling.specs.declared.Missed.TheVariants.{Coasts, Dropped}
 use Rattle.settling.specs.Gains.{tenths, gain_a, gain_b}
 
 -- ---- what a step asks of a track: a well-formed one has it
 
 pub record Settleable (t : Track) : Type 0 where
   pub range_in : t.range ≤ range_most
-  pub range_speed_in : nat_abs t.range_speed.v ≤ range_speed_most
-  pub azimuth_speed_in : nat_abs t.azimuth_speed.v ≤ azimuth_speed_most
+  pub range_speed_in : nat_abs t.range_speed ≤ range_speed_most
+  pub azimuth_speed_in : nat_abs t.azimuth_speed ≤ azimuth_speed_most
 
 -- ---- one coordinate: D = predicted - reported, f = misses + 1, a and b in tenths
 
@@ -58,10 +56,10 @@ abbrev pub updates_most : ℕ
 updates_most = 255
 
 unfoldable pub updated_range_speed : Track → Report → ℤ
-updated_range_speed t p = new_speed range_speed_most t.range_speed.v (range_d t p) (gain_b t p) (t.misses + 1)
+updated_range_speed t p = new_speed range_speed_most t.range_speed (range_d t p) (gain_b t p) (t.misses + 1)
 
 unfoldable pub updated_azimuth_speed : Track → Report → ℤ
-updated_azimuth_speed t p = new_speed azimuth_speed_most t.azimuth_speed.v (azimuth_d t p) (gain_b t p) (t.misses + 1)
+updated_azimuth_speed t p = new_speed azimuth_speed_most t.azimuth_speed (azimuth_d t p) (gain_b t p) (t.misses + 1)
 
 -- new prediction = smoothed + new speed
 unfoldable pub updated_range : Track → Report → ℕ
@@ -75,8 +73,8 @@ unfoldable pub updated_of : Track → Report → ℕ → Track
 updated_of t p s = record {
   range = updated_range t p;
   azimuth = updated_azimuth t p;
-  range_speed = record { v = updated_range_speed t p };
-  azimuth_speed = record { v = updated_azimuth_speed t p };
+  range_speed = updated_range_speed t p;
+  azimuth_speed = updated_azimuth_speed t p;
   updates = min (t.updates + 1) updates_most;
   misses = 0;
   confidence = p.confidence;
@@ -90,21 +88,21 @@ updated_of t p s = record {
 -- misses rises by 1 and the speeds are added to the prediction
 unfoldable pub coasted_of : Track → ℕ → Track
 coasted_of t s = record {
-  range = range_ahead t.range t.range_speed.v;
-  azimuth = azimuth_ahead t.azimuth t.azimuth_speed.v;
+  range = range_ahead t.range t.range_speed;
+  azimuth = azimuth_ahead t.azimuth t.azimuth_speed;
   range_speed = t.range_speed;
   azimuth_speed = t.azimuth_speed;
   updates = t.updates;
   misses = t.misses + 1;
   confidence = t.confidence;
   quality = t.quality;
-  wait = wait_after s (azimuth_ahead t.azimuth t.azimuth_speed.v);
+  wait = wait_after s (azimuth_ahead t.azimuth t.azimuth_speed);
   mark = held;
 }
 
--- if misses + 1 exceeds the allowance it is dropped
-unfoldable pub without_pair : Track → ℕ → Missed
-without_pair t s = cond (ltb (allowance t.updates) (t.misses + 1)) Dropped (Coasts (coasted_of t s))
+-- if misses + 1 exceeds the allowance it is dropped: none
+unfoldable pub without_pair : Track → ℕ → Option Track
+without_pair t s = cond (ltb (allowance t.updates) (t.misses + 1)) None (Some (coasted_of t s))
 
 -- ---- a report that starts a track
 
@@ -113,8 +111,8 @@ unfoldable pub started_of : Report → ℕ → Track
 started_of p s = record {
   range = p.range;
   azimuth = p.azimuth;
-  range_speed = record { v = pos 0 };
-  azimuth_speed = record { v = pos 0 };
+  range_speed = pos 0;
+  azimuth_speed = pos 0;
   updates = updates_at_start;
   misses = 0;
   confidence = p.confidence;

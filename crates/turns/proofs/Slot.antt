@@ -18,8 +18,7 @@ use Rattle.laws.specs.Lists.{at}
 use Rattle.records.specs.Bytes.{freed, slot_bytes, wait_at, mark_at, track_of, bytes_of, report_of, slot_due, is_free}
 use Rattle.records.proofs.Checked.{slot_well_formed, sound}
 use Rattle.records.proofs.RoundTrips.{Bytes}
-use Rattle.settling.specs.declared.Missed.{Missed}
-use Rattle.settling.specs.declared.Missed.TheVariants.{Coasts, Dropped}
+use Rattle.std.specs.Prelude.{Option, Some, None}
 use Rattle.settling.specs.Settle.{without_pair}
 use Rattle.settling.proofs.HandedOn.{ServedTrack, updated_served, coasted_served, started_served}
 use Rattle.matching.specs.Pairing.{none}
@@ -99,9 +98,9 @@ freed_free = refl
 fresh_missed : (s : ℕ) (slot : List ℕ) → s < sectors → WellFormed (track_of slot) s → JustServed s (missed_slot s slot)
 fresh_missed s slot h w = go (without_pair (track_of slot) s) refl
   where
-    go : (u : Missed) → without_pair (track_of slot) s ≡ u → JustServed s (missed_slot s slot)
-    go (Coasts t) e = rw (missed_kept s slot t e) (fresh_bytes (coasted_served (track_of slot) t s h w e))
-    go Dropped e = rw (missed_dropped s slot e) (fresh_free s freed freed_free)
+    go : (u : Option Track) → without_pair (track_of slot) s ≡ u → JustServed s (missed_slot s slot)
+    go (Some t) e = rw (missed_kept s slot t e) (fresh_bytes (coasted_served (track_of slot) t s h w e))
+    go None e = rw (missed_dropped s slot e) (fresh_free s freed freed_free)
 
 -- a slot that is not malformed and does not hold a track is free, and ageing keeps it so
 fresh_aged : {s : ℕ} {batch : List (List ℕ)} {P slot : List ℕ} {rank : ℕ} → SlotReady s batch P slot rank → (at slot mark_at ≡ held → ⊥) → JustServed s (aged_slot slot)

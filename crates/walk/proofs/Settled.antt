@@ -18,8 +18,8 @@ use Rattle.records.specs.Fields.{free, held, track_fields, report_fields, bad_re
 use Rattle.records.specs.Bytes.{freed, mark_at, track_of, bytes_of, report_of, bad_slot_field, slot_due}
 use Rattle.records.proofs.Checked.{free_slot_good, slot_well_formed, sound}
 use Rattle.records.proofs.Packed.{packed_good}
-use Rattle.settling.specs.declared.Missed.{Missed}
-use Rattle.settling.specs.declared.Missed.TheVariants.{Coasts, Dropped}
+use Rattle.std.specs.Prelude.{Option, Some, None}
+use Rattle.records.specs.declared.Track.{Track}
 use Rattle.settling.specs.Settle.{without_pair, aged_of}
 use Rattle.settling.proofs.HandedOn.{updated_served, coasted_served, aged_well_formed}
 use Rattle.matching.specs.Pairing.{none}
@@ -85,9 +85,9 @@ paired_good s report slot h e = packed_good _ (next_sector s) (updated_served (t
 missed_good : (s : ℕ) (slot : List ℕ) → s < sectors → WellFormed (track_of slot) s → bad_slot_field (missed_slot s slot) (next_sector s) ≡ track_fields
 missed_good s slot h w = go (without_pair (track_of slot) s) refl
   where
-    go : (u : Missed) → without_pair (track_of slot) s ≡ u → bad_slot_field (missed_slot s slot) (next_sector s) ≡ track_fields
-    go (Coasts t) e = rw (missed_kept s slot t e) (packed_good t (next_sector s) (coasted_served (track_of slot) t s h w e).well)
-    go Dropped e = rw (missed_dropped s slot e) (freed_slot_good (next_sector s))
+    go : (u : Option Track) → without_pair (track_of slot) s ≡ u → bad_slot_field (missed_slot s slot) (next_sector s) ≡ track_fields
+    go (Some t) e = rw (missed_kept s slot t e) (packed_good t (next_sector s) (coasted_served (track_of slot) t s h w e).well)
+    go None e = rw (missed_dropped s slot e) (freed_slot_good (next_sector s))
 
 aged_good : (s : ℕ) (slot : List ℕ) → bad_slot_field slot s ≡ track_fields → slot_due slot ≡ false → bad_slot_field (aged_slot slot) (next_sector s) ≡ track_fields
 unfolding aged_slot
@@ -132,17 +132,17 @@ settled_good i P r q k h = rw (settled_at i P k h) (slot_good (settles_at i P r 
 -- ---- the counts
 
 -- a due track without a pair coasts or is dropped
-kept_or_dropped : (u : Missed) → coasted_one u + dropped_one u ≡ 1
+kept_or_dropped : (u : Option Track) → coasted_one u + dropped_one u ≡ 1
 unfolding coasted_one dropped_one
-kept_or_dropped (Coasts t) = refl
-kept_or_dropped Dropped = refl
+kept_or_dropped (Some t) = refl
+kept_or_dropped None = refl
 
 -- those that coast and those that are dropped are those without a pair
 pub missed_counts : (i : Input) (n : ℕ) (P : List ℕ) → coasted_count i n P + dropped_count i n P ≡ sum n (λ rank. cond (eqb (at P rank) none) 1 0)
 unfolding coasted_count dropped_count missed_sum
 missed_counts i n P = sym (sum_add n _ _) ∙ sum_same n _ _ (λ rank l. go (eqb (at P rank) none) (missed_at i.table i.sector rank))
   where
-    go : (b : Bool) (u : Missed) → cond b (coasted_one u) 0 + cond b (dropped_one u) 0 ≡ cond b 1 0
+    go : (b : Bool) (u : Option Track) → cond b (coasted_one u) 0 + cond b (dropped_one u) 0 ≡ cond b 1 0
     go true u = kept_or_dropped u
     go false u = refl
 

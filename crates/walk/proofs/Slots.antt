@@ -13,7 +13,7 @@ use Rattle.records.specs.Fields.{held, WellFormed}
 use Rattle.laws.specs.Lists.{at}
 use Rattle.records.specs.Bytes.{freed, slot_bytes, wait_at, mark_at, track_of, bytes_of, slot_due}
 use Rattle.records.proofs.RoundTrips.{Bytes, pack_unpack}
-use Rattle.settling.specs.declared.Missed.TheVariants.{Coasts, Dropped}
+use Rattle.std.specs.Prelude.{Some, None}
 use Rattle.settling.specs.Settle.{without_pair}
 use Rattle.settling.proofs.HandedOn.{aged_bytes}
 use Rattle.walk.specs.Table.{missed_bytes, missed_slot, aged_slot}
@@ -36,14 +36,14 @@ unfolding aged_slot track_of
 aged_byte slot b e = rw (eq-eqb (at slot mark_at) held e, aged_bytes (track_of slot), pack_unpack slot b)
 
 -- a due track without a pair, by what becomes of it
-pub missed_kept : (s : ℕ) (slot : List ℕ) (t : Track) → without_pair (track_of slot) s ≡ Coasts t → missed_slot s slot ≡ bytes_of t
+pub missed_kept : (s : ℕ) (slot : List ℕ) (t : Track) → without_pair (track_of slot) s ≡ Some t → missed_slot s slot ≡ bytes_of t
 unfolding missed_slot missed_bytes
 missed_kept s slot t e = rw e
 
-pub missed_dropped : (s : ℕ) (slot : List ℕ) → without_pair (track_of slot) s ≡ Dropped → missed_slot s slot ≡ freed
+pub missed_dropped : (s : ℕ) (slot : List ℕ) → without_pair (track_of slot) s ≡ None → missed_slot s slot ≡ freed
 unfolding missed_slot missed_bytes
 missed_dropped s slot e = rw e
 
 -- a well-formed track's speeds fit sixteen bits
-pub speeds_fit : {t : Track} {s : ℕ} → WellFormed t s → (nat_abs t.range_speed.v < half_turn) × (nat_abs t.azimuth_speed.v < half_turn)
+pub speeds_fit : {t : Track} {s : ℕ} → WellFormed t s → (nat_abs t.range_speed < half_turn) × (nat_abs t.azimuth_speed < half_turn)
 speeds_fit w = (omega (arith, w.range_speed_in), omega (arith, w.azimuth_speed_in))

@@ -14,7 +14,8 @@ use Rattle.laws.proofs.Sums.{sum_none, sum_more, sum_done}
 use Rattle.laws.proofs.Tests.{clash}
 use Rattle.laws.specs.Lists.{at}
 use Rattle.records.specs.Bytes.{track_of, slot_due}
-use Rattle.settling.specs.declared.Missed.{Missed}
+use Rattle.std.specs.Prelude.{Option}
+use Rattle.records.specs.declared.Track.{Track}
 use Rattle.settling.specs.Settle.{Settleable, without_pair}
 use Rattle.settling.proofs.HandedOn.{settleable}
 use Rattle.matching.specs.Pairing.{none}
@@ -131,7 +132,7 @@ unfolding missed_sum
 missed_none table sector due P = record { upto = omega arith; coasts = sum_none _; drops = sum_none _; few = (omega arith, omega arith) }
 
 -- what one rank adds to a sum
-abbrev Adds : (Missed → ℕ) → (table : List (List ℕ)) (sector : ℕ) (due P : List ℕ) (rank x : ℕ) → Type 0
+abbrev Adds : (Option Track → ℕ) → (table : List (List ℕ)) (sector : ℕ) (due P : List ℕ) (rank x : ℕ) → Type 0
 Adds one table sector due P rank x = (x ≡ cond (eqb (at P rank) none) (one (without_pair (track_of (get_or table (get_or due rank 0) [])) sector)) 0) × (x ≤ 1)
 
 pub missed_more : {table : List (List ℕ)} {sector : ℕ} {due P : List ℕ} {coasted dropped rank x y : ℕ} → MissedSoFar table sector due P coasted dropped rank → rank < length due → due ≡ due_slots table → Adds coasted_one table sector due P rank x → Adds dropped_one table sector due P rank y → MissedSoFar table sector due P (coasted + x) (dropped + y) (rank + 1)

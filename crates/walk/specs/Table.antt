@@ -1,10 +1,9 @@
 -- The table after pairing, before any track starts (01, 'After pairing').
-use Rattle.std.specs.Prelude.{ℕ, ◌+◌, cond, List, [], eqb, get_or}
+use Rattle.std.specs.Prelude.{ℕ, ◌+◌, cond, List, [], eqb, get_or, Option, Some, None}
 use Rattle.laws.specs.Lists.{at, outs}
 use Rattle.laws.specs.Sums.{sum}
+use Rattle.records.specs.declared.Track.{Track}
 use Rattle.records.specs.Bytes.{freed, track_of, bytes_of, report_of, slot_due, is_held}
-use Rattle.settling.specs.declared.Missed.{Missed}
-use Rattle.settling.specs.declared.Missed.TheVariants.{Coasts, Dropped}
 use Rattle.settling.specs.Settle.{updated_of, without_pair, aged_of}
 use Rattle.matching.specs.Pairing.{none}
 use Rattle.intake.specs.Refusals.{Input, due_slots}
@@ -14,9 +13,9 @@ unfoldable pub paired_slot : (sector : ℕ) (report slot : List ℕ) → List �
 paired_slot sector report slot = bytes_of (updated_of (track_of slot) (report_of report) sector)
 
 -- a due track without a pair is missed: it coasts, or is dropped
-unfoldable pub missed_bytes : Missed → List ℕ
-missed_bytes (Coasts t) = bytes_of t
-missed_bytes Dropped = freed
+unfoldable pub missed_bytes : Option Track → List ℕ
+missed_bytes (Some t) = bytes_of t
+missed_bytes None = freed
 
 unfoldable pub missed_slot : (sector : ℕ) (slot : List ℕ) → List ℕ
 missed_slot sector slot = missed_bytes (without_pair (track_of slot) sector)
@@ -57,20 +56,20 @@ slot_prices i prices = outs due_rank (slot_price prices) i.table 0
 -- ---- the counts of due tracks without a pair
 
 -- a due track that is left out counts 1 where it coasts, or where it is dropped
-unfoldable pub coasted_one : Missed → ℕ
-coasted_one (Coasts t) = 1
-coasted_one Dropped = 0
+unfoldable pub coasted_one : Option Track → ℕ
+coasted_one (Some t) = 1
+coasted_one None = 0
 
-unfoldable pub dropped_one : Missed → ℕ
-dropped_one (Coasts t) = 0
-dropped_one Dropped = 1
+unfoldable pub dropped_one : Option Track → ℕ
+dropped_one (Some t) = 0
+dropped_one None = 1
 
 -- what becomes of the due track of a rank that is left out
-unfoldable pub missed_at : (table : List (List ℕ)) (sector rank : ℕ) → Missed
+unfoldable pub missed_at : (table : List (List ℕ)) (sector rank : ℕ) → Option Track
 missed_at table sector rank = without_pair (track_of (get_or table (get_or (due_slots table) rank 0) [])) sector
 
 -- a sum over the ranks that are left out
-unfoldable pub missed_sum : (Missed → ℕ) → (table : List (List ℕ)) (sector tracks : ℕ) (P : List ℕ) → ℕ
+unfoldable pub missed_sum : (Option Track → ℕ) → (table : List (List ℕ)) (sector tracks : ℕ) (P : List ℕ) → ℕ
 missed_sum one table sector tracks P = sum tracks (λ rank. cond (eqb (at P rank) none) (one (missed_at table sector rank)) 0)
 
 unfoldable pub coasted_count : Input → ℕ → List ℕ → ℕ

@@ -15,7 +15,6 @@ ghost use Rattle.walk.specs.Table.{coasted_one, dropped_one, coasted_count, drop
 ghost use Rattle.walk.specs.Ready.{TableReady, SlotReady, DueReady, DuePriced};
 
 use records::Site;
-use settling::Missed;
 
 // How many of the missed tracks coast, and how many are dropped.
 #[derive(Clone, Copy)]
@@ -45,8 +44,8 @@ fn missed_slot(slot: [u8; records::SLOT_BYTES], sector: u8) -> [u8; records::SLO
 {
     let outcome = settling::without_pair(records::unpack(slot), sector);
     match outcome {
-        Missed::Coasts(t) => records::pack(t),
-        Missed::Dropped => [0u8; records::SLOT_BYTES],
+        Some(t) => records::pack(t),
+        None => [0u8; records::SLOT_BYTES],
     }
 }
 
@@ -201,11 +200,11 @@ fn missed_one(slot: [u8; records::SLOT_BYTES], number: u32, sector: u8) -> Misse
     }
     let outcome = settling::without_pair(records::unpack(slot), sector);
     match outcome {
-        Missed::Coasts(_) => MissedCounts {
+        Some(_) => MissedCounts {
             coasted: 1,
             dropped: 0,
         },
-        Missed::Dropped => MissedCounts {
+        None => MissedCounts {
             coasted: 0,
             dropped: 1,
         },

@@ -1,11 +1,7 @@
-use Rattle.numbers.proofs.Forms.{from_zero_below, from_zero_up}
-use Rattle.std.proofs.Common.{arith}
+use Rattle.std.proofs.Common.{arith, to_z-of_z}
+use Rattle.numbers.proofs.Forms.{from_zero_clamp}
+use Rattle.numbers.proofs.WholeLaws.{from_zero_lies}
 use Rattle.numbers.proofs.held_from_zero.Goals as goal
 
-pub returns-then-negative : goal.returns-then-negative
-returns-then-negative c =
-    (from_zero_below c.args.most c.args.z.v cc, omega arith)
-
 pub returns : goal.returns
-returns c =
-    (cc (from_zero_up c.args.most c.args.z.v cc), omega arith)
+returns c = grind (arith, to_z-of_z, from_zero_clamp, from_zero_lies)

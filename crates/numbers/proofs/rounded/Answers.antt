@@ -1,7 +1,9 @@
-use Rattle.numbers.proofs.Forms.{rounded_form}
-use Rattle.std.proofs.Common.{arith}
+use Rattle.std.proofs.Common.{arith, to_z-of_z}
+use Rattle.numbers.proofs.Forms.{rounded_below, rounded_up}
 use Rattle.numbers.proofs.rounded.Goals as goal
 
-pub returns : goal.returns
-returns c =
-    (cc (rounded_form c.args.z.v c.args.d), omega arith)
+pub returns-then-z-lt0 : goal.returns-then-z-lt0
+returns-then-z-lt0 c = grind (arith, to_z-of_z, rounded_below)
+
+pub returns-else-z-lt0 : goal.returns-else-z-lt0
+returns-else-z-lt0 c = grind (arith, to_z-of_z, rounded_up)

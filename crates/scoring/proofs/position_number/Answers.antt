@@ -1,9 +1,9 @@
-use Prim.Native.Nat.{◌+◌, ◌*◌, ◌/◌, ◌^◌, ◌≤◌, ◌<◌}
+use Prim.Native.Nat.{◌+◌, ◌*◌, ◌/◌, ◌^◌, ◌<◌}
 use mathlib.Core.Path.{◌≡◌, refl}
 use native.Mathlib.Omega.{arith}
 use Rattle.scoring.specs.Position.{position_most, eighths_squared, reaches, position_of}
 use Rattle.scoring.proofs.Largest.{among_all, among_half, among_end}
-use Rattle.scoring.proofs.PositionLaws.{sides_fit, sigma_product, reaches_downward}
+use Rattle.scoring.proofs.PositionLaws.{sides_fit, reaches_downward}
 use Rattle.scoring.proofs.position_number.Goals as goal
 use Rattle.scoring.proofs.position_number.Goals.{After-reached-up, After-square-2}
 
@@ -19,18 +19,6 @@ told : (c : After-reached-up) →
 unfolding reaches
 told c = cc
 
-pub square-sigmas-requires : goal.square-sigmas-requires
-square-sigmas-requires c =
-    rw c.by_sigma.ensures (sigma_product c.args.range_sigma c.args.azimuth_sigma (omega arith) (omega arith))
-
-pub square-requires : goal.square-requires
-square-requires c =
-    rw c.by_sigma-2.ensures (sigma_product c.args.dr c.args.azimuth_sigma (omega arith) (omega arith))
-
-pub square-requires-2 : goal.square-requires-2
-square-requires-2 c =
-    rw c.by_sigma-3.ensures (sigma_product c.args.da c.args.range_sigma (omega arith) (omega arith))
-
 pub overflow_add-off : goal.overflow_add-off
 overflow_add-off c = omega (arith, off_fits (goal.at.overflow_add-off c).After-square-2)
 
@@ -39,12 +27,6 @@ overflow_mul-off c = omega (arith, off_fits (goal.at.overflow_mul-off c).After-s
 
 pub loop-width-init : goal.loop-width-init
 loop-width-init c = among_all _ position_most 9 refl
-
-pub reached-up-requires : goal.reached-up-requires
-reached-up-requires c =
-    let m = c.loop-width.low + c.loop-width.width / 2 in
-    let h : m ≤ position_most = omega arith in
-    (omega arith, (h, rw (c.square-sigmas.ensures, c.by_sigma.ensures) (sides_fit c.args.dr c.args.da c.args.range_sigma c.args.azimuth_sigma m (omega arith) (omega arith) (omega arith) (omega arith) h).0))
 
 pub loop-width-preserved : goal.loop-width-preserved
 loop-width-preserved c =

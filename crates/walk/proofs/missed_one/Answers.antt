@@ -1,6 +1,6 @@
 use Rattle.records.specs.Bytes.{track_of}
 use Rattle.settling.specs.Settle.{without_pair}
-use Rattle.settling.specs.declared.Missed.TheVariants.{Coasts, Dropped}
+use Rattle.std.specs.Prelude.{Some, None}
 use mathlib.Core.Path.{◌≡◌, refl}
 use Rattle.walk.specs.Table.{coasted_one, dropped_one}
 use borrow.Author.Tests.{eq-eqb, ne_eqb}
@@ -13,14 +13,14 @@ returns-then-number-ne-NONE c = rw (ne_eqb _ _ c.if-number-ne-NONE.true) (record
 pub without_pair-outcome-requires : goal.without_pair-outcome-requires
 without_pair-outcome-requires c = record { settleable = rw c.unpack.ensures c.requires.settleable; sector_in = c.requires.sector_in }
 
-pub returns-in-Coasts : goal.returns-in-Coasts
+pub returns-in-Some : goal.returns-in-Some
 unfolding coasted_one dropped_one
-returns-in-Coasts c =
-    let k : without_pair (track_of c.args.slot) c.args.sector ≡ Coasts c.in-Coasts.field-0 = cc in
+returns-in-Some c =
+    let k : without_pair (track_of c.args.slot) c.args.sector ≡ Some c.in-Some.field-0 = cc in
     rw (eq-eqb _ _ c.if-number-ne-NONE.false, k) (record { coasts = (refl, omega arith); drops = (refl, omega arith) })
 
-pub returns-in-Dropped : goal.returns-in-Dropped
+pub returns-in-None : goal.returns-in-None
 unfolding coasted_one dropped_one
-returns-in-Dropped c =
-    let k : without_pair (track_of c.args.slot) c.args.sector ≡ Dropped = cc in
+returns-in-None c =
+    let k : without_pair (track_of c.args.slot) c.args.sector ≡ None = cc in
     rw (eq-eqb _ _ c.if-number-ne-NONE.false, k) (record { coasts = (refl, omega arith); drops = (refl, omega arith) })
