@@ -42,11 +42,11 @@ fn offer(cell: u32, discount: u32, label: u32, price: u32) -> u32
     cell % FAR + discount - price + label
 }
 
-// x where a is below b, else y.
+// x where a is below b, else y. In a vector, a test by `at most` takes the lesser of the two, which `relax` has at hand.
 pub fn choose(a: u32, b: u32, x: u32, y: u32) -> u32
     ensures { (a < b → result ≡ x) × (b ≤ a → result ≡ y) }
 {
-    if a < b { x } else { y }
+    if b <= a { y } else { x }
 }
 
 // A track at this label offers to every report of its row.
