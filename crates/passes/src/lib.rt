@@ -37,7 +37,7 @@ pub fn fill(a: &mut [u32], v: u32)
 // What a track at this label offers to a report: `none` is far away.
 fn offer(cell: u32, discount: u32, label: u32, price: u32) -> u32
     requires { (discount ≤ left_out) × ((label ≤ left_out) × ((price ≤ left_out) × ((cell < far → price ≤ cell + discount) × IsCell cell))) }
-    ensures { (cell < far → result + price ≡ label + cell + discount) × ((far ≤ cell → left_out < result) × (result < 2 ^ 31)) }
+    ensures { (cell < far → result + price ≡ label + cell + discount) × (far ≤ cell → left_out < result) }
 {
     cell % FAR + discount - price + label
 }
@@ -109,8 +109,8 @@ fn far_nearest(labels: &[u32], closings: &[u32], cap: u32) -> usize
 
 // A label and its report in one key; labels from NEAR on count alike.
 fn near_of(label: u32, j: u32) -> u32
-    requires { (label < 2 ^ 31) × (j < key_places) }
-    ensures { (label < near → result ≡ label * key_places + j) × ((near ≤ label → result ≡ near * key_places + j) × (result < 2 ^ 31)) }
+    requires { j < key_places }
+    ensures { (label < near → result ≡ label * key_places + j) × (near ≤ label → result ≡ near * key_places + j) }
 {
     label.min(NEAR) * KEY_PLACES + j
 }
@@ -201,9 +201,10 @@ pub fn raise_discounts(labels: &[u32], reach: u32, discounts: &mut [u32])
 }
 
 // A score and its report in one key.
+#[tactic(auto, unfolding(crate::specs::Cells::key))]
 fn key_of(cell: u32, j: u32) -> u32
     requires { j < key_places }
-    ensures { (result ≡ key cell j) × (result < 2 ^ 31) }
+    ensures { result ≡ key cell j }
 {
     cell % KEY_SCORES * KEY_PLACES + j
 }
@@ -239,7 +240,6 @@ pub fn row_best(cells: &[u32]) -> Option<Cheapest>
 
 // Report j, if it has this score and no track has it, or the last key.
 fn free_key(cell: u32, owner: u32, score: u32, j: u32) -> u32
-    requires { j < key_places }
     ensures { (result ≡ last_key) ⊎ ((result ≡ j) × ((cell ≡ score) × (owner ≡ none))) }
 {
     if cell == score && owner == NONE {
