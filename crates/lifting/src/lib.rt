@@ -5,7 +5,7 @@
 ghost use Rattle.std.specs.Prelude.{◌≡◌, ℕ, ◌+◌, ◌-◌, ◌%◌, ◌<◌, ◌≤◌, ◌^◌, ◌⊎◌, length, IfSome};
 ghost use Rattle.laws.specs.Lists.{at};
 ghost use Rattle.matching.specs.Pairing.{none, left_out, most_tracks};
-ghost use Rattle.passes.specs.Cells.{IsCell, far, key_places};
+ghost use Rattle.passes.specs.Cells.{far, key_places};
 ghost use Rattle.lifting.specs.Slack.{Small, Tightenable, Row, Bounded, Tightened, Spent, Beside, Raised};
 
 use matching::{LEFT_OUT, NONE};

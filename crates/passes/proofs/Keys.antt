@@ -8,7 +8,7 @@ use Rattle.laws.specs.Lists.{at}
 use Rattle.matching.specs.Pairing.{none, score_end, left_out}
 use lib.ListN.{length}
 use Rattle.laws.proofs.Stores.{le_or_lt}
-use Rattle.passes.specs.Cells.{IsCell, key_scores, key_places, key, Keyed, RowLeast, near}
+use Rattle.passes.specs.Cells.{IsCell, key_scores, key_places, key, Keyed, RowLeast}
 
 pub key_is : (cell k : ℕ) → key cell k ≡ cell % key_scores * key_places + k
 unfolding key

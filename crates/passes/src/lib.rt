@@ -81,7 +81,8 @@ fn least(labels: &[u32], closings: &[u32], cap: u32) -> u32
     best
 }
 
-// The first open report at this label, or the length.
+// The first open report at this label, or the length: a search's own end mark up to nearest_from, so that an Option here would only
+// be turned back.
 fn first_at(labels: &[u32], closings: &[u32], label: u32) -> usize
     requires { Labels labels.now closings.now }
     ensures { Found labels.now closings.now label result }
