@@ -1,5 +1,5 @@
 -- The search's own steps: the tree planted, a report closed, and the two ends.
-use Prim.Native.Nat.{ℕ, ◌+◌, ◌-◌, ◌≤◌, ◌<◌}
+use Prim.Native.Nat.{ℕ, min, ◌+◌, ◌-◌, ◌≤◌, ◌<◌}
 use mathlib.Core.Path.{◌≡◌, refl, ap, ◌∙◌}
 use mathlib.Core.Bool.{true, false, not}
 use lib.Dec.{ltb, eqb}
@@ -136,7 +136,7 @@ module _ {cells : List ℕ} {m track : ℕ} {pairing owner prices discounts : Li
 
       -- place is the track that has report j, as an index; leaving' and leaver' are what leaving a track out then costs, and which
       pub passed_on : {place leaving' leaver' : ℕ} {labels' via' : List ℕ} → place ≡ at owner j → let cost = at labels j + (left_out - at prices place) in
-          (leaving' ≤ cost) × ((leaving' ≤ leaving) × ((cost < leaving → leaving' ≡ cost) × (leaving ≤ cost → leaving' ≡ leaving)))
+          leaving' ≡ min cost leaving
           → (cost < leaving → leaver' ≡ at owner j) × (leaving ≤ cost → leaver' ≡ leaver)
           → Offered cells m discounts (at labels j) (at prices (at owner j)) (at owner j) labels via labels' via'
           → Tree cells m (length prices) pairing owner prices discounts track leaving' leaver' (k + 1) labels' via' (closed_at closings j k)
@@ -144,9 +144,9 @@ module _ {cells : List ℕ} {m track : ℕ} {pairing owner prices discounts : Li
           let cost = at labels j + (left_out - at prices place) in
           let e : cost + at prices (at owner j) ≡ at labels j + left_out = omega (arith, ap (at prices) q, G.numbers.price_in (at owner j) own_j.there) in
           advance T next_in (pop_open next_in) G.numbers (pop_low next_in) (pop_near next_in) own_j
-          L.1.0 (omega (arith, L.0))
-          (⊎_elim (λ g. omega (arith, L.1.1.1 g, pop_low next_in)) (λ g. omega (arith, L.1.1.0 g)) (le_or_lt leaving cost))
-          (⊎_elim (λ g. inl (L.1.1.1 g, K.1 g)) (λ g. inr (omega (arith, L.1.1.0 g), K.0 g)) (le_or_lt leaving cost))
+          (omega arith) (omega arith)
+          (omega (arith, pop_low next_in))
+          (⊎_elim (λ g. inl (omega arith, K.1 g)) (λ g. inr (omega arith, K.0 g)) (le_or_lt leaving cost))
           S'
 
       -- front' is the first report from front on that is open

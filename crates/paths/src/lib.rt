@@ -7,7 +7,7 @@ ghost use Rattle.paths.specs.State.{Offered, Offerable, Searchable, Standing, is
 
 use matching::{LEFT_OUT, NONE, index};
 use passes::{
-    FAR, choose, fill, lesser, nearest_from, open_from, raise_discounts, raise_prices, relax,
+    FAR, choose, fill, nearest_from, open_from, raise_discounts, raise_prices, relax,
 };
 
 // Where a search stands: what leaving a track out would cost, and which; how many reports are closed, before which report all are,
@@ -122,7 +122,7 @@ fn pass_through(
     let passed = owner[j];
     let cost = label + (LEFT_OUT - prices[index(passed)]);
     let leaver = choose(cost, s.leaving, passed, s.leaver);
-    let leaving = lesser(cost, s.leaving);
+    let leaving = cost.min(s.leaving);
     let front = open_from(closings, s.front);
     offer_from(
         sheet, reports, front, passed, label, prices, discounts, labels, via,

@@ -1,10 +1,8 @@
-use Rattle.passes.proofs.Offers.{Going}
-use Prim.Native.Nat.{◌-◌}
-use lib.ListN.{length}
+use Rattle.std.proofs.Common.{◌≡◌, ℕ, ◌<◌, ◌≤◌}
+use Rattle.laws.specs.Lists.{at}
+use Rattle.passes.specs.Cells.{Step}
 use Rattle.passes.proofs.relax.Given as goal
 
 abbrev pub invariant-loop-j : goal.invariant-loop-j
-invariant-loop-j l = Going l.cells l.discounts l.label l.price l.track l.initial.labels l.initial.via l.j l.labels l.via
-
-abbrev pub decreases-loop-j : goal.decreases-loop-j
-decreases-loop-j l = length l.initial.labels - l.j
+invariant-loop-j l = ((k : ℕ) → k < l.j → Step (at l.cells k) (at l.discounts k) l.label l.price l.track (at l.initial.labels k) (at l.initial.via k) (at l.labels k) (at l.via k))
+    × ((k : ℕ) → l.j ≤ k → (at l.labels k ≡ at l.initial.labels k) × (at l.via k ≡ at l.initial.via k))

@@ -33,18 +33,6 @@ pub overflow_add-cost : goal.overflow_add-cost
 overflow_add-cost c =
     omega (arith, c.requires.standing.tree.labels_in _ (next_in c.requires.standing c.requires.next_taken))
 
-pub choose-leaver-requires : goal.choose-leaver-requires
-choose-leaver-requires c =
-    let S = c.requires.standing in
-    let t = c.requires.next_taken in
-    (omega (arith, S.tree.labels_in _ (next_in S t)), omega (arith, S.tree.leaving_in))
-
-pub lesser-leaving-requires : goal.lesser-leaving-requires
-lesser-leaving-requires c =
-    let S = c.requires.standing in
-    let t = c.requires.next_taken in
-    (omega (arith, S.tree.labels_in _ (next_in S t)), omega (arith, S.tree.leaving_in))
-
 pub open_from-front-requires : goal.open_from-front-requires
 open_from-front-requires c =
     let S = c.requires.standing in
@@ -56,7 +44,7 @@ offer_from-requires c =
 
 pub nearest_from-next-requires : goal.nearest_from-next-requires
 nearest_from-next-requires c =
-    keys c.requires.standing.good (passed_on c.requires.standing c.requires.next_taken c.index.ensures c.lesser-leaving.ensures c.choose-leaver.ensures c.offer_from.ensures) (front_more c.requires.standing c.requires.next_taken c.open_from-front.ensures)
+    keys c.requires.standing.good (passed_on c.requires.standing c.requires.next_taken c.index.ensures c.min-leaving.ensures c.choose-leaver.ensures c.offer_from.ensures) (front_more c.requires.standing c.requires.next_taken c.open_from-front.ensures)
 
 pub overflow_add-result : goal.overflow_add-result
 overflow_add-result c =
@@ -67,7 +55,7 @@ pub returns : goal.returns
 returns c = (
   record {
     good = c.requires.standing.good;
-    tree = passed_on c.requires.standing c.requires.next_taken c.index.ensures c.lesser-leaving.ensures c.choose-leaver.ensures c.offer_from.ensures;
+    tree = passed_on c.requires.standing c.requires.next_taken c.index.ensures c.min-leaving.ensures c.choose-leaver.ensures c.offer_from.ensures;
     behind = front_more c.requires.standing c.requires.next_taken c.open_from-front.ensures;
     nearest = c.nearest_from-next.ensures;
   },
