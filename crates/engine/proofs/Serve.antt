@@ -10,12 +10,15 @@ use lib.ListN.{length, take, drop, length-append, get_or-append}
 use lib.Seq.{drop_at, get_or-take, length-take-le}
 use borrow.Author.Tests.{ne_eqb, ltb-true}
 use Rattle.std.specs.Prelude.{Ok}
+use Rattle.std.specs.Result.{IsErrAnd}
+use Rattle.std.proofs.lemmas.Result.{err_from_is_err_and}
 use Rattle.laws.proofs.Stores.{same_or}
 use Rattle.laws.proofs.Tests.{or_second, each_at}
 use Rattle.laws.specs.Lists.{at}
 use Rattle.matching.specs.Pairing.{none, score_end}
-use Rattle.matching.specs.Answer.{Sizes, Fits, cell_ok, cells_ok, check_answer, check_number}
-use Rattle.matching.proofs.Facts.{cells_ok_lem, answer_back}
+use Rattle.matching.specs.declared.Fault.{Fault}
+use Rattle.matching.specs.Answer.{Sizes, Fits, cell_ok, cells_ok, check_answer, fault_number, check_number}
+use Rattle.matching.proofs.Facts.{cells_ok_lem, answer_back, no_zero}
 use Rattle.matching.proofs.Theorems.{not_refused, certificate_zero, beyond_is_not_read}
 use Rattle.passes.specs.Cells.{IsCell}
 use Rattle.engine.specs.Call.{pairing_refusal, Paired, paired_by, SheetPaired, PairsSheet}
@@ -26,9 +29,15 @@ is_cell c e =
     ⊎_elim inr (λ d. inl (ltb-true c score_end (or_second (eqb c none) (ltb c score_end) e (ne_eqb c none d)))) (same_or c none)
 
 module _ (n m : ℕ) (cells pairing prices discounts : List ℕ) where
-  pub refuses : (a : Paired) → check_number a ≡ pairing_refusal n m cells pairing prices discounts → (check_number a ≡ 0 → ⊥) → PairsSheet n m cells pairing prices discounts pairing prices discounts a
-  refuses a e d =
-      record { answered = sym (answer_back a) ∙ ap paired_by e; refused = λ z. (refl, (refl, refl)); served = λ z. absurd (d (e ∙ z)) }
+  pub refuses : (a : Paired) (told : Fault) → IsErrAnd a (λ f. f ≡ told) → fault_number told ≡ pairing_refusal n m cells pairing prices discounts → PairsSheet n m cells pairing prices discounts pairing prices discounts a
+  refuses a told h e =
+      let w = err_from_is_err_and a h in
+      let number : check_number a ≡ pairing_refusal n m cells pairing prices discounts = rw (w.1, w.2) e in
+      record {
+        answered = sym (answer_back a) ∙ ap paired_by number;
+        refused = λ z. (refl, (refl, refl));
+        served = λ z. absurd (no_zero told (e ∙ z));
+      }
 
   module _ (e : pairing_refusal n m cells pairing prices discounts ≡ 0) where
     pub sizes : Sizes n m (length cells) (length pairing) (length prices) (length discounts)

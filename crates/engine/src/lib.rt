@@ -247,6 +247,7 @@ pub fn pair_cells(
 }
 
 // The public call: refused by 21 or 22, and then nothing is written; else the lists' first entries are written, and no more.
+#[tactic(auto, using(crate::proofs::Serve::refuses))]
 pub fn pair_sheet(
     tracks: usize,
     reports: usize,

@@ -1,64 +1,56 @@
-use mathlib.Core.Path.{sym, ◌∙◌}
+use mathlib.Core.Path.{sym}
 use native.Mathlib.Omega.{arith}
+use borrow.Author.Rules.{rules}
 use lib.Seq.{length-take-le}
-use Rattle.std.specs.Prelude.{Err}
-use Rattle.std.proofs.lemmas.Result.{err_from_is_err_and}
-use Rattle.matching.proofs.Facts.{no_zero}
-use Rattle.engine.proofs.Serve.{refuses, sizes, tested, serves}
+use Rattle.engine.proofs.Serve.{sizes, tested, serves}
 use Rattle.engine.proofs.pair_sheet.Goals as goal
-
-pub returns-in_err-sheet_refusal : goal.returns-in_err-sheet_refusal
-returns-in_err-sheet_refusal c =
-    let p = err_from_is_err_and c.from_residual.result c.from_residual.ensures.1 in
-    let h = c.in_err-sheet_refusal.ensures in
-    rw (p.1, p.2) (refuses _ _ _ _ _ _ (Err c.in_err-sheet_refusal.field-0.0) h (no_zero _))
 
 pub overflow_mul-tracks : goal.overflow_mul-tracks
 overflow_mul-tracks c =
     let given = c.args in
-    omega (arith, (sizes given.tracks given.reports given.sheet.now given.pairing.now given.prices.now given.discounts.now (sym c.in_ok-sheet_refusal.ensures)).cells_long)
+    omega (arith, (sizes given.tracks given.reports given.sheet.now given.pairing.now given.prices.now given.discounts.now (search rules)).cells_long)
 
 pub slice_bounds-pair_cells-end : goal.slice_bounds-pair_cells-end
 slice_bounds-pair_cells-end c =
     let given = c.args in
-    sym (length-take-le _ _ (sizes given.tracks given.reports given.sheet.now given.pairing.now given.prices.now given.discounts.now (sym c.in_ok-sheet_refusal.ensures)).cells_long)
+    sym (length-take-le _ _ (sizes given.tracks given.reports given.sheet.now given.pairing.now given.prices.now given.discounts.now (search rules)).cells_long)
 
 pub slice_bounds-pair_cells-end-2 : goal.slice_bounds-pair_cells-end-2
 slice_bounds-pair_cells-end-2 c =
     let given = c.args in
-    (sizes given.tracks given.reports given.sheet.now given.pairing.now given.prices.now given.discounts.now (sym c.in_ok-sheet_refusal.ensures)).pairing_long
+    (sizes given.tracks given.reports given.sheet.now given.pairing.now given.prices.now given.discounts.now (search rules)).pairing_long
 
 pub slice_bounds-pair_cells-end-3 : goal.slice_bounds-pair_cells-end-3
 slice_bounds-pair_cells-end-3 c =
     let given = c.args in
-    sym (length-take-le _ _ (sizes given.tracks given.reports given.sheet.now given.pairing.now given.prices.now given.discounts.now (sym c.in_ok-sheet_refusal.ensures)).pairing_long)
+    sym (length-take-le _ _ (sizes given.tracks given.reports given.sheet.now given.pairing.now given.prices.now given.discounts.now (search rules)).pairing_long)
 
 pub slice_bounds-pair_cells-end-4 : goal.slice_bounds-pair_cells-end-4
 slice_bounds-pair_cells-end-4 c =
     let given = c.args in
-    (sizes given.tracks given.reports given.sheet.now given.pairing.now given.prices.now given.discounts.now (sym c.in_ok-sheet_refusal.ensures)).prices_long
+    (sizes given.tracks given.reports given.sheet.now given.pairing.now given.prices.now given.discounts.now (search rules)).prices_long
 
 pub slice_bounds-pair_cells-end-5 : goal.slice_bounds-pair_cells-end-5
 slice_bounds-pair_cells-end-5 c =
     let given = c.args in
-    sym (length-take-le _ _ (sizes given.tracks given.reports given.sheet.now given.pairing.now given.prices.now given.discounts.now (sym c.in_ok-sheet_refusal.ensures)).prices_long)
+    sym (length-take-le _ _ (sizes given.tracks given.reports given.sheet.now given.pairing.now given.prices.now given.discounts.now (search rules)).prices_long)
 
 pub slice_bounds-pair_cells-end-6 : goal.slice_bounds-pair_cells-end-6
 slice_bounds-pair_cells-end-6 c =
     let given = c.args in
-    (sizes given.tracks given.reports given.sheet.now given.pairing.now given.prices.now given.discounts.now (sym c.in_ok-sheet_refusal.ensures)).discounts_long
+    (sizes given.tracks given.reports given.sheet.now given.pairing.now given.prices.now given.discounts.now (search rules)).discounts_long
 
 pub slice_bounds-pair_cells-end-7 : goal.slice_bounds-pair_cells-end-7
 slice_bounds-pair_cells-end-7 c =
     let given = c.args in
-    sym (length-take-le _ _ (sizes given.tracks given.reports given.sheet.now given.pairing.now given.prices.now given.discounts.now (sym c.in_ok-sheet_refusal.ensures)).discounts_long)
+    sym (length-take-le _ _ (sizes given.tracks given.reports given.sheet.now given.pairing.now given.prices.now given.discounts.now (search rules)).discounts_long)
 
 pub pair_cells-requires : goal.pair_cells-requires
 pair_cells-requires c =
     let given = c.args in
-    tested given.tracks given.reports given.sheet.now given.pairing.now given.prices.now given.discounts.now (sym c.in_ok-sheet_refusal.ensures)
+    tested given.tracks given.reports given.sheet.now given.pairing.now given.prices.now given.discounts.now (search rules)
 
 pub returns : goal.returns
 returns c =
     let given = c.args in
-    serves given.tracks given.reports given.sheet.now given.pairing.now given.prices.now given.discounts.now (sym c.in_ok-sheet_refusal.ensures) _ _ _ c.pair_cells.ensures
+    serves given.tracks given.reports given.sheet.now given.pairing.now given.prices.now given.discounts.now (search rules) _ _ _ c.pair_cells.ensures
