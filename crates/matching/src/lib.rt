@@ -166,11 +166,12 @@ fn numbers_ok(numbers: &[u32]) -> bool
     numbers.iter().all(|x| *x <= LEFT_OUT)
 }
 
-// The pair is not admissible, or the price less the discount is not above its score. A sum past 32 bits is above every price.
+// The pair is not admissible, or the price less the discount is not above its score. A sum past 32 bits is above every price; `|`
+// has no branch, so that a row goes by vectors.
 fn pair_ok(price: u32, score: u32, discount: u32) -> bool
     ensures { result ≡ pair_ok price score discount }
 {
-    score == NONE || price <= score.saturating_add(discount)
+    (score == NONE) | (price <= score.saturating_add(discount))
 }
 
 // The pairs of a track.
