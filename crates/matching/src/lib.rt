@@ -1,7 +1,7 @@
 // The referee: checks that a pairing of tracks with reports is best, by prices and discounts that show it. It knows of no engine.
 #![tactic(auto)]
 
-ghost use Rattle.std.specs.Prelude.{◌≡◌, true, cond, not, ◌&&◌, ◌+◌, ◌*◌, ◌≤◌, ◌<◌, ◌^◌, eqb, length};
+ghost use Rattle.std.specs.Prelude.{◌≡◌, true, cond, not, ◌&&◌, ◌+◌, ◌*◌, ◌≤◌, ◌<◌, ◌^◌, eqb, length, take, drop};
 ghost use Rattle.laws.specs.Sums.{sum};
 ghost use Rattle.laws.specs.Tests.{each};
 ghost use Rattle.laws.specs.Lists.{at};
@@ -20,6 +20,13 @@ pub const MOST_TRACKS: usize = 100;
 pub const MOST_REPORTS: usize = 100;
 // The check's answer where it finds no fault.
 pub const ACCEPTED: u8 = 0;
+
+// A score sheet: a row a track, `reports` cells a row.
+#[derive(Clone, Copy)]
+pub struct Sheet<'a> {
+    pub cells: &'a [u32],
+    pub reports: usize,
+}
 
 // Few enough tracks and reports, and long enough lists, by their lengths.
 fn sizes_ok(
@@ -330,4 +337,16 @@ pub fn check_pairing(
         return 26;
     }
     ACCEPTED
+}
+
+impl<'a> Sheet<'a> {
+    // Track i's cells.
+    pub fn row(self, i: usize) -> &'a [u32]
+        requires { i * self.reports + self.reports ≤ length self.cells.now }
+        ensures { result.now ≡ take self.entry.reports (drop (i * self.entry.reports) self.entry.cells.now) }
+    {
+        let start = i * self.reports;
+        let end = start + self.reports;
+        &self.cells[start..end]
+    }
 }
