@@ -28,6 +28,17 @@ pub struct Sheet<'a> {
     pub reports: usize,
 }
 
+impl<'a> Sheet<'a> {
+    // A track's cells.
+    pub fn row(self, track: usize) -> &'a [u32]
+        requires { track * self.reports + self.reports ≤ length self.cells.now }
+        ensures { result.now ≡ take self.entry.reports (drop (track * self.entry.reports) self.entry.cells.now) }
+    {
+        let start = track * self.reports;
+        &self.cells[start..start + self.reports]
+    }
+}
+
 // Few enough tracks and reports, and long enough lists, by their lengths.
 fn sizes_ok(
     tracks: usize,
@@ -337,16 +348,4 @@ pub fn check_pairing(
         return 26;
     }
     ACCEPTED
-}
-
-impl<'a> Sheet<'a> {
-    // Track i's cells.
-    pub fn row(self, i: usize) -> &'a [u32]
-        requires { i * self.reports + self.reports ≤ length self.cells.now }
-        ensures { result.now ≡ take self.entry.reports (drop (i * self.entry.reports) self.entry.cells.now) }
-    {
-        let start = i * self.reports;
-        let end = start + self.reports;
-        &self.cells[start..end]
-    }
 }
