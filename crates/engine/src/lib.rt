@@ -69,20 +69,18 @@ fn claim(
     let row = place * reports;
     let row_end = row + reports;
     let cells = &sheet[row..row_end];
-    let best = row_best(cells);
-    let score = best.score;
-    let report = best.report;
-    prices[place] = score;
-    if score >= LEFT_OUT {
+    let Some(best) = row_best(cells) else {
+        prices[place] = LEFT_OUT;
         return;
-    }
-    let j = free_report(cells, owner, score, report);
-    if j >= reports {
+    };
+    let report = best.report;
+    prices[place] = best.score;
+    let Some(j) = free_report(cells, owner, best.score, report) else {
         oust(
             sheet, reports, track, report, pairing, owner, prices, discounts,
         );
         return;
-    }
+    };
     pairing[place] = j as u32;
     owner[j] = track;
 }

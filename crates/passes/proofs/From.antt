@@ -10,6 +10,10 @@ use Rattle.laws.proofs.Parts.{part, part_length, part_at}
 use Rattle.laws.specs.Lists.{at}
 use Rattle.passes.specs.Cells.{Labels, FromLabels, Nearest}
 
+-- what stands at k, in the part from front on
+pub on_at : (xs : List ℕ) (front k : ℕ) → front ≤ k → k < length xs → at (part xs front (length xs)) (k - front) ≡ at xs k
+on_at xs front k l h = part_at xs front (length xs) (k - front) (omega arith) ∙ ap (at xs) (omega arith)
+
 module _ (front : ℕ) (labels closings : List ℕ) (cap : ℕ) (F : FromLabels front labels closings cap) where
   abbrev labels_on : List ℕ
   labels_on = part labels front (length labels)

@@ -1,27 +1,14 @@
--- Signed tests of small numbers; a score or label and its report in one key.
-use Prim.Native.Nat.{ℕ, ◌+◌, ◌*◌, ◌/◌, ◌%◌, ◌≤◌, ◌<◌, ◌^◌}
-use mathlib.Core.Path.{◌≡◌, refl, sym, subst}
-use mathlib.Core.Bool.{true, false, not}
+-- A score or label and its report in one key.
+use Prim.Native.Nat.{ℕ, ◌+◌, ◌*◌, ◌/◌, ◌%◌, ◌≤◌, ◌<◌, min}
+use mathlib.Core.Path.{◌≡◌, refl, sym}
 use mathlib.Core.Logic.{⊎_elim}
 use mathlib.Core.List.{List}
 use native.Mathlib.Omega.{arith}
 use Rattle.laws.specs.Lists.{at}
 use Rattle.matching.specs.Pairing.{none, score_end, left_out}
-use lib.Dec.{T, ltb→lt, nltb→le}
-use lib.Signed.{lt_z}
 use lib.ListN.{length}
-use mir.Syntax.{w32}
-use mir.Val.{to_z}
-use mir.Facts.{to_z_pos}
 use Rattle.laws.proofs.Stores.{le_or_lt}
 use Rattle.passes.specs.Cells.{IsCell, key_scores, key_places, key, Keyed, RowLeast, near}
-
-module _ (a b : ℕ) (ha : a < 2 ^ 31) (hb : b < 2 ^ 31) where
-  pub less_yes : lt_z (to_z w32 a) (to_z w32 b) ≡ true → a < b
-  less_yes t = ltb→lt a b (subst T (sym (rw (to_z_pos w32 ha, to_z_pos w32 hb) at t)) tt)
-
-  pub less_no : lt_z (to_z w32 a) (to_z w32 b) ≡ false → b ≤ a
-  less_no t = nltb→le a b (subst (λ x. T (not x)) (sym (rw (to_z_pos w32 ha, to_z_pos w32 hb) at t)) tt)
 
 pub key_is : (cell k : ℕ) → key cell k ≡ cell % key_scores * key_places + k
 unfolding key
@@ -74,3 +61,10 @@ near_met labels closings j r s h n f g = ⊎_elim
     let q : r % key_places ≡ j = omega (arith, n l) in
     rw q (h, sym d))
     (le_or_lt near (at labels j + at closings j))
+
+-- ---- the lesser of two
+
+pub met_by_min : (P : ℕ → Type 0) (best next r : ℕ) → r ≡ min best next → P best → P next → P r
+met_by_min P best next r e b n = ⊎_elim
+    (λ (l : best ≤ next). let q : r ≡ best = omega arith in rw q b)
+    (λ (l : next < best). let q : r ≡ next = omega arith in rw q n) (le_or_lt best next)

@@ -1,7 +1,8 @@
 -- What the engine's passes say of one cell and of whole lists. A label is how far a search has to go to reach a report.
-use Rattle.std.specs.Prelude.{ℕ, ◌+◌, ◌-◌, ◌*◌, ◌/◌, ◌%◌, ◌≤◌, ◌<◌, ◌^◌, ◌≡◌, List, ◌⊎◌, length}
+use Rattle.std.specs.Prelude.{ℕ, ◌+◌, ◌-◌, ◌*◌, ◌/◌, ◌%◌, ◌≤◌, ◌<◌, ◌^◌, ◌≡◌, List, ◌⊎◌, length, Option, Some, None}
 use Rattle.laws.specs.Lists.{at}
 use Rattle.matching.specs.Pairing.{none, score_end, left_out}
+use Rattle.passes.specs.declared.Cheapest.{Cheapest}
 
 -- above every label, and above what an admissible pair adds to one
 abbrev pub far : ℕ
@@ -103,6 +104,11 @@ pub record RowLeast (cells : List ℕ) (score report : ℕ) : Type 0 where
   pub capped : score ≤ left_out
   pub below : (k : ℕ) → k < length cells → score ≤ at cells k
   pub met : score < left_out → (report < length cells) × (at cells report ≡ score)
+
+-- the answer for a row: a score and its report, or none where no report is admissible
+abbrev pub RowBest : List ℕ → Option Cheapest → Type 0
+RowBest cells (Some best) = (best.score < score_end) × RowLeast cells best.score best.report
+RowBest cells None = RowLeast cells left_out 0
 
 -- ---- prices and discounts after a search that ends at the label reach
 

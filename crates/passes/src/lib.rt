@@ -2,12 +2,12 @@
 // that it goes by vectors. Lists have an entry a report; a label says how far a search has to go to reach that report.
 #![tactic(auto)]
 
-ghost use Rattle.std.specs.Prelude.{◌≡◌, ℕ, ◌+◌, ◌-◌, ◌*◌, ◌<◌, ◌≤◌, ◌^◌, length, ◌⊎◌};
+ghost use Rattle.std.specs.Prelude.{IfSome, MatchOption, ◌≡◌, ℕ, ◌+◌, ◌-◌, ◌*◌, ◌<◌, ◌≤◌, ◌^◌, length, ◌⊎◌};
 ghost use Rattle.laws.specs.Lists.{at};
 ghost use Rattle.matching.specs.Pairing.{none, left_out};
-ghost use Rattle.passes.specs.Cells.{IsCell, far, key_places, key, Keyed, RowLeast, Fair, Relaxed, Labels, FromLabels, Low, Found, near, Near, Nearest, Searched, Paid, RaisedOne, PricesUp, DiscountsUp};
+ghost use Rattle.passes.specs.Cells.{IsCell, far, key_places, last_key, key, Keyed, RowBest, Fair, Relaxed, Labels, FromLabels, Low, Found, near, Near, Nearest, Searched, Paid, RaisedOne, PricesUp, DiscountsUp};
 
-use matching::{LEFT_OUT, NONE, SCORE_END, index};
+use matching::{NONE, SCORE_END, index};
 
 // Above every label, and above what an admissible pair adds to one.
 pub const FAR: u32 = 1073741824;
@@ -21,7 +21,7 @@ const LAST_KEY: u32 = KEY_SCORES * KEY_PLACES - 1;
 const NEAR: u32 = KEY_SCORES - 1;
 
 // The least score of a row, and a report that has it.
-#[derive(Clone, Copy)]
+#[derive(Clone, Copy, Debug, PartialEq, Eq)]
 pub struct Cheapest {
     pub score: u32,
     pub report: u32,
@@ -31,11 +31,7 @@ pub struct Cheapest {
 pub fn fill(a: &mut [u32], v: u32)
     ensures { (length a.new ≡ length a.old) × ((k : ℕ) → k < length a.old → at a.new k ≡ v) }
 {
-    let mut j: usize = 0;
-    while j < a.len() {
-        a[j] = v;
-        j += 1;
-    }
+    a.fill(v);
 }
 
 // What a track at this label offers to a report: `none` is far away.
@@ -46,28 +42,11 @@ fn offer(cell: u32, discount: u32, label: u32, price: u32) -> u32
     cell % FAR + discount - price + label
 }
 
-// Here and in the next two, a and b are under 2^31: a signed comparison is one instruction in a vector.
-pub fn lesser(a: u32, b: u32) -> u32
-    requires { (a < 2 ^ 31) × (b < 2 ^ 31) }
-    ensures { (result ≤ a) × ((result ≤ b) × ((a < b → result ≡ a) × (b ≤ a → result ≡ b))) }
-{
-    if (a as i32) < (b as i32) { a } else { b }
-}
-
 // x where a is below b, else y.
 pub fn choose(a: u32, b: u32, x: u32, y: u32) -> u32
-    requires { (a < 2 ^ 31) × (b < 2 ^ 31) }
     ensures { (a < b → result ≡ x) × (b ≤ a → result ≡ y) }
 {
-    if (a as i32) < (b as i32) { x } else { y }
-}
-
-// How far a is above b, or 0.
-pub fn excess(a: u32, b: u32) -> u32
-    requires { (a < 2 ^ 31) × (b < 2 ^ 31) }
-    ensures { result ≡ a - b }
-{
-    if (b as i32) < (a as i32) { a - b } else { 0 }
+    if a < b { x } else { y }
 }
 
 // A track at this label offers to every report of its row.
@@ -83,14 +62,10 @@ pub fn relax(
     requires { Fair cells.now discounts.now labels.old via.old label price }
     ensures { Relaxed cells.now discounts.now label price track labels.old via.old labels.new via.new }
 {
-    let mut j: usize = 0;
-    while j < labels.len() {
+    for j in 0..labels.len() {
         let offered = offer(cells[j], discounts[j], label, price);
-        let before = labels[j];
-        let via_before = via[j];
-        labels[j] = lesser(offered, before);
-        via[j] = choose(offered, before, track, via_before);
-        j += 1;
+        via[j] = choose(offered, labels[j], track, via[j]);
+        labels[j] = offered.min(labels[j]);
     }
 }
 
@@ -100,10 +75,8 @@ fn least(labels: &[u32], closings: &[u32], cap: u32) -> u32
     ensures { Low labels.now closings.now cap result }
 {
     let mut best = cap;
-    let mut j: usize = 0;
-    while j < labels.len() {
-        best = lesser(labels[j] + closings[j], best);
-        j += 1;
+    for (label, closing) in labels.iter().zip(closings) {
+        best = best.min(*label + *closing);
     }
     best
 }
@@ -113,15 +86,12 @@ fn first_at(labels: &[u32], closings: &[u32], label: u32) -> usize
     requires { Labels labels.now closings.now }
     ensures { Found labels.now closings.now label result }
 {
-    let mut j: usize = 0;
-    while j < labels.len() {
-        let here = labels[j] + closings[j];
-        if here == label {
+    for (j, (here, closing)) in labels.iter().zip(closings).enumerate() {
+        if *here + *closing == label {
             return j;
         }
-        j += 1;
     }
-    j
+    labels.len()
 }
 
 // An open report of least label below cap, or the length.
@@ -142,7 +112,7 @@ fn near_of(label: u32, j: u32) -> u32
     requires { (label < 2 ^ 31) × (j < key_places) }
     ensures { (label < near → result ≡ label * key_places + j) × ((near ≤ label → result ≡ near * key_places + j) × (result < 2 ^ 31)) }
 {
-    lesser(label, NEAR) * KEY_PLACES + j
+    label.min(NEAR) * KEY_PLACES + j
 }
 
 // The least of these keys.
@@ -150,11 +120,9 @@ fn near_key(labels: &[u32], closings: &[u32]) -> u32
     requires { Labels labels.now closings.now }
     ensures { Near labels.now closings.now result }
 {
-    let mut best: u32 = LAST_KEY;
-    let mut j: usize = 0;
-    while j < labels.len() {
-        best = lesser(near_of(labels[j] + closings[j], j as u32), best);
-        j += 1;
+    let mut best = LAST_KEY;
+    for (j, (label, closing)) in labels.iter().zip(closings).enumerate() {
+        best = best.min(near_of(*label + *closing, j as u32));
     }
     best
 }
@@ -183,19 +151,22 @@ pub fn nearest_from(front: usize, labels: &[u32], closings: &[u32], cap: u32) ->
     front + nearest(&labels[front..], &closings[front..], cap)
 }
 
+// The first open report.
+fn first_open(closings: &[u32]) -> Option<usize>
+    ensures { MatchOption result ((k : ℕ) → k < length closings.now → at closings.now k ≡ 0 → ⊥) (λ i. (i < length closings.now) × ((k : ℕ) → k < i → at closings.now k ≡ 0 → ⊥)) }
+{
+    closings.iter().position(|closing| *closing == 0)
+}
+
 // The first open report from `front` on, or the length.
 pub fn open_from(closings: &[u32], front: usize) -> usize
     requires { front ≤ length closings.now }
     ensures { (front ≤ result) × ((result ≤ length closings.now) × ((k : ℕ) → k < result → front ≤ k → at closings.now k ≡ 0 → ⊥)) }
 {
-    let mut j = front;
-    while j < closings.len() {
-        if closings[j] == 0 {
-            return j;
-        }
-        j += 1;
+    match first_open(&closings[front..]) {
+        Some(ahead) => front + ahead,
+        None => closings.len(),
     }
-    j
 }
 
 // One track's price rises; a rise of 0 may name no track.
@@ -214,10 +185,8 @@ pub fn raise_prices(pairing: &[u32], owner: &[u32], labels: &[u32], reach: u32, 
     requires { Paid pairing.now owner.now labels.now prices.old reach }
     ensures { PricesUp pairing.now labels.now reach prices.old prices.new }
 {
-    let mut j: usize = 0;
-    while j < labels.len() {
-        raise_one(prices, owner[j], excess(reach, labels[j]));
-        j += 1;
+    for (track, label) in owner.iter().zip(labels) {
+        raise_one(prices, *track, reach.saturating_sub(*label));
     }
 }
 
@@ -226,10 +195,8 @@ pub fn raise_discounts(labels: &[u32], reach: u32, discounts: &mut [u32])
     requires { Searched labels.now reach × ((length labels.now ≡ length discounts.old) × ((j : ℕ) → j < length discounts.old → at discounts.old j + reach < 2 ^ 32)) }
     ensures { DiscountsUp labels.now reach discounts.old discounts.new }
 {
-    let mut j: usize = 0;
-    while j < discounts.len() {
-        discounts[j] = discounts[j] + excess(reach, labels[j]);
-        j += 1;
+    for (j, discount) in discounts.iter_mut().enumerate() {
+        *discount += reach.saturating_sub(labels[j]);
     }
 }
 
@@ -246,70 +213,65 @@ fn row_key(cells: &[u32]) -> u32
     requires { length cells.now ≤ key_places }
     ensures { Keyed cells.now result }
 {
-    let mut best: u32 = LAST_KEY;
-    let mut j: usize = 0;
-    while j < cells.len() {
-        best = lesser(key_of(cells[j], j as u32), best);
-        j += 1;
+    let mut best = LAST_KEY;
+    for (j, cell) in cells.iter().enumerate() {
+        best = best.min(key_of(*cell, j as u32));
     }
     best
 }
 
-// The least score of a row and its report, or LEFT_OUT.
+// The least score of a row and its report; None where no report is admissible.
 #[tactic(auto, using(crate::proofs::Keys::best_none))]
-pub fn row_best(cells: &[u32]) -> Cheapest
+pub fn row_best(cells: &[u32]) -> Option<Cheapest>
     requires { (length cells.now ≤ key_places) × ((k : ℕ) → k < length cells.now → IsCell (at cells.now k)) }
-    ensures { RowLeast cells.now result.score result.report }
+    ensures { RowBest cells.now result }
 {
     let best = row_key(cells);
     let score = best / KEY_PLACES;
     if score >= SCORE_END {
-        return Cheapest {
-            score: LEFT_OUT,
-            report: 0,
-        };
+        return None;
     }
-    Cheapest {
-        score: score,
+    Some(Cheapest {
+        score,
         report: best % KEY_PLACES,
-    }
+    })
 }
 
-// Report j, if it has this score and no track has it, or a number beyond all.
+// Report j, if it has this score and no track has it, or the last key.
 fn free_key(cell: u32, owner: u32, score: u32, j: u32) -> u32
     requires { j < key_places }
-    ensures { (result < 2 ^ 31) × (result < key_places → (result ≡ j) × ((cell ≡ score) × (owner ≡ none))) }
+    ensures { (result ≡ last_key) ⊎ ((result ≡ j) × ((cell ≡ score) × (owner ≡ none))) }
 {
-    if cell == score {
-        if owner == NONE {
-            return j;
-        }
+    if cell == score && owner == NONE {
+        j
+    } else {
+        LAST_KEY
     }
-    LAST_KEY
 }
 
-// The first report of this score that no track has, or a number beyond all: a loop with no way out goes by vectors.
-fn first_free(cells: &[u32], owner: &[u32], score: u32) -> u32
+// The first report of this score that no track has. The loop has no way out and its keys are plain numbers, so that it goes by vectors.
+fn first_free(cells: &[u32], owner: &[u32], score: u32) -> Option<usize>
     requires { (length owner.now ≡ length cells.now) × (length cells.now ≤ key_places) }
-    ensures { result < length cells.now → (at cells.now result ≡ score) × (at owner.now result ≡ none) }
+    ensures { IfSome result (λ j. (j < length cells.now) × ((at cells.now j ≡ score) × (at owner.now j ≡ none))) }
 {
-    let mut best: u32 = LAST_KEY;
-    let mut j: usize = 0;
-    while j < cells.len() {
-        best = lesser(free_key(cells[j], owner[j], score, j as u32), best);
-        j += 1;
+    let mut best = LAST_KEY;
+    for (j, (cell, track)) in cells.iter().zip(owner).enumerate() {
+        best = best.min(free_key(*cell, *track, score, j as u32));
     }
-    best
+    if best == LAST_KEY {
+        return None;
+    }
+    Some(index(best))
 }
 
-// The report, of this score, if no track has it, or another such report, or a number beyond all.
-pub fn free_report(cells: &[u32], owner: &[u32], score: u32, report: u32) -> usize
+// The report, of this score, if no track has it, or another such report.
+pub fn free_report(cells: &[u32], owner: &[u32], score: u32, report: u32) -> Option<usize>
     requires { (length owner.now ≡ length cells.now) × ((length cells.now ≤ key_places) × ((report < length cells.now) × (at cells.now report ≡ score))) }
-    ensures { result < length cells.now → (at cells.now result ≡ score) × (at owner.now result ≡ none) }
+    ensures { IfSome result (λ j. (j < length cells.now) × ((at cells.now j ≡ score) × (at owner.now j ≡ none))) }
 {
     let place = index(report);
     if owner[place] == NONE {
-        return place;
+        return Some(place);
     }
-    index(first_free(cells, owner, score))
+    first_free(cells, owner, score)
 }

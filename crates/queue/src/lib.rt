@@ -12,7 +12,7 @@ ghost use Rattle.queue.specs.State.{Slack, Lifting};
 
 use lifting::{bound_slack, highest, least_slack, next_track, raise_paired, spend, tighten};
 use matching::{LEFT_OUT, NONE};
-use passes::{fill, lesser};
+use passes::fill;
 use paths::insert;
 
 // A search that closes as many reports is long.
@@ -76,7 +76,7 @@ fn lift(
     requires { Lifting sheet.now reports (length prices.old) pairing.now owner.now prices.old discounts.old slack.old }
     ensures { Lifting sheet.now reports (length prices.old) pairing.now owner.now prices.new discounts.new slack.new }
 {
-    let rise = lesser(least_slack(owner, slack), LEFT_OUT - highest(prices));
+    let rise = least_slack(owner, slack).min(LEFT_OUT - highest(prices));
     if rise == 0 {
         return;
     }
@@ -128,14 +128,13 @@ fn lifted_inserts(
 {
     let mut round: usize = 0;
     while round < prices.len() {
-        let next = next_track(pairing, prices);
-        if next == 0 {
+        let Some(next) = next_track(pairing, prices) else {
             return;
-        }
+        };
         lifted_insert(
             sheet,
             reports,
-            next - 1,
+            next,
             pairing,
             owner,
             prices,
@@ -178,14 +177,13 @@ fn first_inserts(
 {
     let mut round: usize = 0;
     while round < prices.len() {
-        let next = next_track(pairing, prices);
-        if next == 0 {
+        let Some(next) = next_track(pairing, prices) else {
             return;
-        }
+        };
         let r = insert(
             sheet,
             reports,
-            next - 1,
+            next,
             pairing,
             owner,
             prices,
@@ -215,7 +213,7 @@ fn later_inserts(
     requires { Good sheet.now reports (length prices.old) pairing.old owner.old prices.old discounts.old × (SearchLists reports labels.old via.old closings.old × (length slack.old ≡ reports)) }
     ensures { Good sheet.now reports (length prices.old) pairing.new owner.new prices.new discounts.new }
 {
-    if next_track(pairing, prices) == 0 {
+    if next_track(pairing, prices).is_none() {
         return;
     }
     fill(slack, LEFT_OUT);

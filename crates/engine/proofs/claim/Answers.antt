@@ -1,6 +1,8 @@
 use Rattle.engine.proofs.Begin.{claimed_price, claimed_pair, contested, claimed_len, claim_len, claim_cells}
 use Rattle.laws.proofs.Sums.{row_in}
 use lib.ListN.{length}
+use Prim.Native.Nat.{◌<◌}
+use Rattle.matching.specs.Pairing.{left_out}
 use native.Mathlib.Omega.{arith}
 use Rattle.engine.proofs.claim.Goals as goal
 
@@ -25,8 +27,8 @@ offset_bounds-sheet-row c =
     let q = c.index-place.ensures in
     omega (arith, p.good.shape.cells_long, row_in c.index-place.result (length given.prices.now) given.reports (length given.sheet.now) (omega (arith, p.track_in)) (omega (arith, p.good.shape.cells_long)))
 
-pub row_best-best-requires : goal.row_best-best-requires
-row_best-best-requires c = claim_cells _ _ _ _ _ _ _ c.requires _ c.index-place.ensures
+pub row_best-requires : goal.row_best-requires
+row_best-requires c = claim_cells _ _ _ _ _ _ _ c.requires _ c.index-place.ensures
 
 pub offset_bounds-prices-place : goal.offset_bounds-prices-place
 offset_bounds-prices-place c =
@@ -39,25 +41,18 @@ bounds-prices-place c =
     let q = c.index-place.ensures in
     omega (arith, c.requires.track_in)
 
-pub returns-then-score-ge-LEFT_OUT : goal.returns-then-score-ge-LEFT_OUT
-returns-then-score-ge-LEFT_OUT c = claimed_price _ _ _ _ _ _ _ c.requires _ c.index-place.ensures _ c.row_best-best.ensures.capped c.row_best-best.ensures.below
-
-pub free_report-j-requires : goal.free_report-j-requires
-free_report-j-requires c =
+pub free_report-requires : goal.free_report-requires
+free_report-requires c =
     let p = c.requires in
     let at-index = c.index-place in
-    ((claim_len _ _ _ _ _ _ _ p _ at-index.ensures _ c.row_best-best.ensures.capped c.row_best-best.ensures.below).0, ((claim_cells _ _ _ _ _ _ _ p _ at-index.ensures).0, c.row_best-best.ensures.met c.if-score-ge-LEFT_OUT.false))
+    let least = c.in-Some.ensures.1 in
+    ((claim_len _ _ _ _ _ _ _ p _ at-index.ensures _ least.capped least.below).0, ((claim_cells _ _ _ _ _ _ _ p _ at-index.ensures).0, least.met (omega (arith, c.in-Some.ensures.0))))
 
 pub oust-requires : goal.oust-requires
 oust-requires c =
-    let row-best = c.row_best-best in
-    let if1 = c.if-score-ge-LEFT_OUT in
-    contested _ _ _ _ _ _ _ c.requires _ c.index-place.ensures _ row-best.ensures.capped row-best.ensures.below _ if1.false (row-best.ensures.met if1.false)
-
-pub returns-then-j-reports : goal.returns-then-j-reports
-returns-then-j-reports c =
-    let row-best = c.row_best-best in
-    claimed_len _ _ _ _ _ _ _ c.requires _ c.index-place.ensures _ row-best.ensures.capped row-best.ensures.below _ _ c.oust.ensures
+    let least = c.in-Some.ensures.1 in
+    let in_range : c.in-Some.best.score < left_out = omega (arith, c.in-Some.ensures.0) in
+    contested _ _ _ _ _ _ _ c.requires _ c.index-place.ensures _ least.capped least.below _ in_range (least.met in_range)
 
 pub overflow_cast-pairing : goal.overflow_cast-pairing
 overflow_cast-pairing c =
@@ -79,15 +74,20 @@ bounds-pairing-place c =
 pub offset_bounds-owner-j : goal.offset_bounds-owner-j
 offset_bounds-owner-j c =
     let p = c.requires in
-    omega (arith, p.good.shape.owner_long, p.good.shape.reports_few)
+    let least = c.in-Some.ensures.1 in
+    omega (arith, c.in-Some-free_report.ensures.0, (claim_len _ _ _ _ _ _ _ p _ c.index-place.ensures _ least.capped least.below).1, p.good.shape.reports_few)
 
 pub bounds-owner-j : goal.bounds-owner-j
-bounds-owner-j c = omega (arith, c.requires.good.shape.owner_long)
+bounds-owner-j c =
+    let p = c.requires in
+    let least = c.in-Some.ensures.1 in
+    omega (arith, c.in-Some-free_report.ensures.0, (claim_len _ _ _ _ _ _ _ p _ c.index-place.ensures _ least.capped least.below).1, p.good.shape.owner_long)
 
 pub returns : goal.returns
 returns c =
     let p = c.requires in
     let at-index = c.index-place in
-    let row-best = c.row_best-best in
-    let t = c.free_report-j.ensures (omega (arith, (claim_len _ _ _ _ _ _ _ p _ at-index.ensures _ row-best.ensures.capped row-best.ensures.below).1, c.if-j-reports.false)) in
-    claimed_pair _ _ _ _ _ _ _ p _ at-index.ensures _ row-best.ensures.capped row-best.ensures.below _ c.if-j-reports.false c.if-score-ge-LEFT_OUT.false t.0 t.1
+    let least = c.in-Some.ensures.1 in
+    let free = c.in-Some-free_report.ensures in
+    let in_range : c.in-Some-free_report.j < c.args.reports = omega (arith, free.0, (claim_len _ _ _ _ _ _ _ p _ at-index.ensures _ least.capped least.below).1) in
+    claimed_pair _ _ _ _ _ _ _ p _ at-index.ensures _ least.capped least.below _ in_range (omega (arith, c.in-Some.ensures.0)) free.1.0 free.1.1

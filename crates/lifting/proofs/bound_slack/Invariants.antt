@@ -1,12 +1,7 @@
+use Rattle.std.proofs.Common.{◌≡◌, ℕ, ◌-◌, ◌<◌, ◌≤◌}
 use Rattle.laws.specs.Lists.{at}
-use lib.ListN.{length}
-use mathlib.Core.Path.{◌≡◌}
-use Prim.Native.Nat.{ℕ, ◌≤◌, ◌<◌, ◌-◌}
 use Rattle.passes.specs.Cells.{far}
 use Rattle.lifting.proofs.bound_slack.Given as goal
 
 abbrev pub invariant-loop-j : goal.invariant-loop-j
-invariant-loop-j l = (l.j ≤ length l.initial.slack) × ((length l.slack ≡ length l.initial.slack) × (((k : ℕ) → k < l.j → (at l.slack k ≤ at l.initial.slack k) × (at l.cells k < far → at l.slack k ≤ at l.cells k - l.price)) × ((k : ℕ) → l.j ≤ k → at l.slack k ≡ at l.initial.slack k)))
-
-abbrev pub decreases-loop-j : goal.decreases-loop-j
-decreases-loop-j l = length l.initial.slack - l.j
+invariant-loop-j l = ((k : ℕ) → k < l.j → (at l.slack k ≤ at l.initial.slack k) × (at l.cells k < far → at l.slack k ≤ at l.cells k - l.price)) × ((k : ℕ) → l.j ≤ k → at l.slack k ≡ at l.initial.slack k)

@@ -1,38 +1,19 @@
-use Rattle.laws.proofs.Stores.{le_or_lt}
-use borrow.Author.Count.{below_none, below_more}
-use mathlib.Core.Path.{refl}
-use mathlib.Core.Logic.{inl, inr, ⊎_elim}
-use Prim.Native.Nat.{◌+◌, ◌<◌, ◌^◌}
+use Rattle.std.proofs.Common.{rules, ◌≡◌, ℕ, ◌+◌, ◌<◌, length, ◌⊎◌, inr, arith, below_more, length-append, ◌∷◌, [], ◌≤◌}
+use Rattle.std.proofs.lemmas.Slice.Zip.{zip_turn}
+use Rattle.passes.proofs.Keys.{met_by_min}
 use Rattle.laws.specs.Lists.{at}
-use borrow.Author.Rules.{rules}
-use native.Mathlib.Omega.{arith}
 use Rattle.passes.proofs.least.Goals as goal
 
-pub loop-j-init : goal.loop-j-init
-loop-j-init c = (search rules, (search rules, (below_none _, inl refl)))
-
-pub overflow_add-labels : goal.overflow_add-labels
-overflow_add-labels c = omega (arith, c.requires.0.small c.loop-j.j c.loop-j-test.true)
-
-pub lesser-best-requires : goal.lesser-best-requires
-lesser-best-requires c =
-    let b : c.loop-j.best < 2 ^ 31 = omega (arith, c.loop-j.invariant.1.0, c.requires.1) in
-    (c.requires.0.small c.loop-j.j c.loop-j-test.true, b)
-
-pub loop-j-preserved : goal.loop-j-preserved
-loop-j-preserved c =
-    let l = c.lesser-best.ensures in (
-      search rules,
+pub loop-label-preserved : goal.loop-label-preserved
+loop-label-preserved c =
+    let given = c.args in
+    let v = c.loop-label.invariant in
+    let m = c.min-best.ensures in
+    let t = zip_turn given.labels.now given.closings.now c.loop-label.yielded c.into_iter-label-iterator.result c.loop-label.label-iterator c.next.new.self c.next.result (search rules) (search rules) c.loop-label.yielded_by (c.in-Some.label, c.in-Some.closing) c.in-Some.is c.next.ensures.steps in (
+      omega (arith, v.0, m),
       (
-        search rules,
-        (
-          below_more _ _ (λ k h. omega (arith, c.loop-j.invariant.1.1.0 k h)) (search rules),
-          ⊎_elim (λ g. ⊎_elim (λ e. inl (omega (arith, l.1.1.1 g))) (λ s. inr (s.0, (s.1.0, omega (arith, s.1.1, l.1.1.1 g)))) c.loop-j.invariant.1.1.1)
-              (λ g. inr (c.loop-j.j, (c.loop-j-test.true, omega (arith, l.1.1.0 g))))
-              (le_or_lt c.loop-j.best (at c.args.labels.now c.loop-j.j + at c.args.closings.now c.loop-j.j)),
-        ),
+        λ k h. below_more (λ (k : ℕ). c.min-best.result ≤ at given.labels.now k + at given.closings.now k) (length c.loop-label.yielded) (λ k h. omega (arith, v.1.0 k h, m)) (omega (arith, m, t.2 0, t.3 0)) k (omega (arith, h, length-append c.loop-label.yielded ((c.in-Some.label, c.in-Some.closing) ∷ []))),
+        met_by_min (λ r. (r ≡ given.cap) ⊎ ((k : ℕ) × ((k < length given.labels.now) × (at given.labels.now k + at given.closings.now k ≡ r)))) _ _ _ m v.1.1
+            (inr (length c.loop-label.yielded, (t.0, omega (arith, t.2 0, t.3 0)))),
       ),
     )
-
-pub returns : goal.returns
-returns c = record { capped = search rules; below = λ k h. c.loop-j.invariant.1.1.0 k (omega arith); met = c.loop-j.invariant.1.1.1 }

@@ -1,16 +1,18 @@
-use borrow.Author.Rules.{rules}
-use borrow.Author.Count.{below_more}
-use native.Mathlib.Omega.{arith}
+use Rattle.std.proofs.Common.{rules, arith, length, ◌-◌}
+use Rattle.laws.proofs.Parts.{part_length}
+use Rattle.passes.proofs.From.{on_at}
 use Rattle.passes.proofs.open_from.Goals as goal
 
-pub loop-j-init : goal.loop-j-init
-loop-j-init c = (search rules, (search rules, λ k h l. absurd (omega arith)))
+pub returns-in-Some : goal.returns-in-Some
+returns-in-Some c =
+    let s = c.args.closings.now in
+    let long = part_length s c.args.front (length s) (search rules) in
+    let found = c.in-Some.ensures in
+    (search rules, (omega (arith, found.0, long), λ k h l z. found.1 (k - c.args.front) (omega arith) (omega (arith, z, on_at s c.args.front k l (omega (arith, found.0, long))))))
 
-pub returns-then-closings-j-eq0 : goal.returns-then-closings-j-eq0
-returns-then-closings-j-eq0 c = (search rules, (search rules, c.loop-j.invariant.1.1))
-
-pub loop-j-preserved : goal.loop-j-preserved
-loop-j-preserved c = (search rules, (search rules, below_more _ _ c.loop-j.invariant.1.1 (λ l. c.if-closings-j-eq0.false)))
-
-pub returns : goal.returns
-returns c = (search rules, (search rules, c.loop-j.invariant.1.1))
+pub returns-in-None : goal.returns-in-None
+returns-in-None c =
+    let s = c.args.closings.now in
+    let long = part_length s c.args.front (length s) (search rules) in
+    let none = c.in-None.ensures in
+    (search rules, (search rules, λ k h l z. none (k - c.args.front) (omega (arith, long)) (omega (arith, z, on_at s c.args.front k l h))))

@@ -3,4 +3,4 @@ use Rattle.passes.proofs.row_best.Goals as goal
 
 pub returns : goal.returns
 returns c =
-    best_one _ c.requires.0 c.requires.1 _ c.row_key-best.ensures c.if-score-ge-SCORE_END.false
+    (c.if-score-ge-SCORE_END.false, best_one _ c.requires.0 c.requires.1 _ c.row_key-best.ensures c.if-score-ge-SCORE_END.false)

@@ -6,17 +6,14 @@ use Rattle.queue.proofs.first_inserts.Goals as goal
 pub loop-round-init : goal.loop-round-init
 loop-round-init c = (c.requires.0, (c.requires.1, search rules))
 
-pub next_track-next-requires : goal.next_track-next-requires
-next_track-next-requires c =
+pub next_track-requires : goal.next_track-requires
+next_track-requires c =
     let G = c.loop-round.invariant.0 in
     (omega (arith, G.shape.pairing_long, G.shape.prices_long), (omega (arith, G.shape.prices_long, G.shape.tracks_few), λ k h. G.numbers.price_in k (omega (arith, G.shape.prices_long))))
 
-pub returns-then-next-eq0 : goal.returns-then-next-eq0
-returns-then-next-eq0 c = c.loop-round.invariant.0
-
 pub insert-r-requires : goal.insert-r-requires
 insert-r-requires c =
-    let t = c.next_track-next.ensures (omega (arith, c.if-next-eq0.false)) in
+    let t = c.in-Some.ensures in
     to_search _ _ _ _ _ _ _ _ _ _ (good_len _ _ _ _ _ _ _ c.loop-round.invariant.0) c.loop-round.invariant.1.0 t.0 t.1
 
 pub next_round-round-requires : goal.next_round-round-requires

@@ -7,18 +7,15 @@ use Rattle.queue.proofs.lifted_inserts.Goals as goal
 pub loop-round-init : goal.loop-round-init
 loop-round-init c = (c.requires.0, (c.requires.1, search rules))
 
-pub next_track-next-requires : goal.next_track-next-requires
-next_track-next-requires c =
+pub next_track-requires : goal.next_track-requires
+next_track-requires c =
     let G = c.loop-round.invariant.0.good in
     (omega (arith, G.shape.pairing_long, G.shape.prices_long), (omega (arith, G.shape.prices_long, G.shape.tracks_few), λ k h. G.numbers.price_in k (omega (arith, G.shape.prices_long))))
-
-pub returns-then-next-eq0 : goal.returns-then-next-eq0
-returns-then-next-eq0 c = c.loop-round.invariant.0.good
 
 pub lifted_insert-requires : goal.lifted_insert-requires
 lifted_insert-requires c =
     let L = c.loop-round.invariant.0 in
-    (lifting_at _ _ _ _ _ _ _ _ _ (sym L.good.shape.prices_long) L, (c.loop-round.invariant.1.0, c.next_track-next.ensures (omega (arith, c.if-next-eq0.false))))
+    (lifting_at _ _ _ _ _ _ _ _ _ (sym L.good.shape.prices_long) L, (c.loop-round.invariant.1.0, c.in-Some.ensures))
 
 pub loop-round-preserved : goal.loop-round-preserved
 loop-round-preserved c =
