@@ -3,7 +3,7 @@
 
 ghost use Rattle.std.specs.Prelude.{◌+◌, ◌≡◌, true};
 ghost use Rattle.passes.specs.Cells.{FromLabels, Nearest};
-ghost use Rattle.paths.specs.Held.{SamePairs, SameTree, Offerable, Offered, Searchable, Standing, Endable, EndsAt, Ended, Flips, Flipped, Finishable, Finished, Inserted, Reached};
+ghost use Rattle.paths.specs.Held.{SamePairs, SameTree, SearchLists, Offerable, Offered, Searchable, Standing, Endable, EndsAt, Ended, Flips, Flipped, Finishable, Finished, Inserted, Reached};
 ghost use Rattle.paths.specs.State.{is_taken};
 
 use matching::{LEFT_OUT, NONE, Sheet};
@@ -225,7 +225,7 @@ fn finish(sheet: Sheet, track: u32, tree: &Tree<'_>, end: End, pairs: &mut Pairs
 // One track more is paired, or left out at the full price.
 pub fn insert(sheet: Sheet, track: u32, pairs: &mut Pairs<'_>, tree: &mut Tree<'_>) -> Reach
     requires { Searchable sheet track pairs.old tree.old }
-    ensures { (SamePairs pairs.old pairs.new × SameTree tree.old tree.new) × (Inserted sheet.entry track pairs.old pairs.new × Reached sheet.entry pairs.old tree.new result.label pairs.new) }
+    ensures { (SamePairs pairs.old pairs.new × (SameTree tree.old tree.new × SearchLists sheet.entry tree.new)) × (Inserted sheet.entry track pairs.old pairs.new × Reached sheet.entry pairs.old tree.new result.label pairs.new) }
 {
     let ending = search(sheet, track, pairs, tree);
     let reach = ending.label;
