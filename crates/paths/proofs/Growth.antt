@@ -1,6 +1,6 @@
 -- The search's own steps: the tree planted, a report closed, and the two ends.
 use Prim.Native.Nat.{ℕ, min, ◌+◌, ◌-◌, ◌≤◌, ◌<◌}
-use mathlib.Core.Path.{◌≡◌, refl, ap, ◌∙◌}
+use mathlib.Core.Path.{◌≡◌, refl, ◌∙◌}
 use mathlib.Core.Bool.{true, false, not}
 use lib.Dec.{ltb, eqb}
 use mathlib.Core.List.{List}
@@ -11,38 +11,24 @@ use lib.ListN.{length, length-set}
 use Rattle.laws.specs.Lists.{at}
 use Rattle.matching.specs.Pairing.{none, left_out}
 use Rattle.passes.specs.Cells.{far, FromLabels}
-use Rattle.paths.specs.State.{closed_at, Own, Good, Tree, Front, Standing, is_taken, Endable, EndsAt, Offered, Offerable, Searchable, Ended}
+use Rattle.paths.specs.State.{closed_at, Own, Good, Tree, Front, Standing, is_taken, EndsAt, Offered, Offerable, Searchable, Ended}
+use Rattle.paths.specs.declared.End.{End}
+use Rattle.paths.specs.declared.End.TheVariants.{Free, LeftOut}
 use Rattle.laws.proofs.Stores.{le_or_lt}
 use Rattle.laws.proofs.Tests.{and_both, and_left, and_right, clash}
 use Rattle.paths.proofs.Advance.{advance, open_count_all, closings_j, low_now, still, open_or_closed', link_closed}
 
 -- what fill gives: each entry of the list is v
-abbrev AllAre : List ℕ → List ℕ → ℕ → Type 0
+abbrev pub AllAre : List ℕ → List ℕ → ℕ → Type 0
 AllAre xs ys v = (length ys ≡ length xs) × ((k : ℕ) → k < length xs → at ys k ≡ v)
 
 pub front_none : (m : ℕ) (closings : List ℕ) → Front 0 m closings
 front_none m closings = record { upto = omega arith; closed = λ e h. absurd (omega arith) }
 
 module _ {cells : List ℕ} {m track : ℕ} {pairing owner prices discounts labels₀ via₀ closings₀ : List ℕ} (R : Searchable cells m track pairing owner prices discounts labels₀ via₀ closings₀) where
-  pub fit_root : {labels₁ : List ℕ} → AllAre labels₀ labels₁ left_out → Offerable cells m 0 track 0 prices discounts labels₁ via₀
-  fit_root f = record {
-    front_in = omega arith;
-    before = λ e h. absurd (omega arith);
-    track_in = R.track_in;
-    cells_long = R.good.shape.cells_long;
-    cells_good = R.good.shape.cells_good;
-    discounts_long = R.good.shape.discounts_long;
-    labels_long = f.0 ∙ R.rooms.labels_long;
-    via_long = R.rooms.via_long;
-    from_in = omega arith;
-    numbers = R.good.numbers;
-    labels_in = λ j h. omega (arith, f.1 j (omega (arith, R.rooms.labels_long)));
-  }
-
-  -- place is the track, as an index
-  pub plant : {place : ℕ} {labels₁ labels₂ via₂ closings₁ : List ℕ} → place ≡ track → AllAre labels₀ labels₁ left_out → AllAre closings₀ closings₁ 0 → Offered cells m discounts 0 (at prices track) track labels₁ via₀ labels₂ via₂
-      → Tree cells m (length prices) pairing owner prices discounts track (left_out - at prices place) track 0 labels₂ via₂ closings₁
-  plant {place} {labels₁} {labels₂} {via₂} {closings₁} q f g S = record {
+  pub plant : {labels₁ labels₂ via₂ closings₁ : List ℕ} → AllAre labels₀ labels₁ left_out → AllAre closings₀ closings₁ 0 → Offered cells m discounts 0 (at prices track) track labels₁ via₀ labels₂ via₂
+      → Tree cells m (length prices) pairing owner prices discounts track (left_out - at prices track) track 0 labels₂ via₂ closings₁
+  plant {labels₁} {labels₂} {via₂} {closings₁} f g S = record {
     labels_long = S.labels_long;
     via_long = S.via_long;
     closings_long = g.0 ∙ R.rooms.closings_long;
@@ -65,8 +51,8 @@ module _ {cells : List ℕ} {m track : ℕ} {pairing owner prices discounts labe
       all_open : (k : ℕ) → k < m → at closings₁ k ≡ 0
       all_open k h = g.1 k (omega (arith, R.rooms.closings_long))
 
-      leaves : left_out - at prices place + at prices track ≡ left_out
-      leaves = omega (arith, ap (at prices) q, R.good.numbers.price_in track R.track_in)
+      leaves : left_out - at prices track + at prices track ≡ left_out
+      leaves = omega (arith, R.good.numbers.price_in track R.track_in)
 
 module _ {cells : List ℕ} {m track : ℕ} {pairing owner prices discounts : List ℕ} {leaving leaver k front : ℕ} {labels via closings : List ℕ} where
   pub keys : Good cells m (length prices) pairing owner prices discounts → Tree cells m (length prices) pairing owner prices discounts track leaving leaver k labels via closings → Front front m closings → FromLabels front labels closings leaving
@@ -106,8 +92,8 @@ module _ {cells : List ℕ} {m track : ℕ} {pairing owner prices discounts : Li
       pop_near : (e : ℕ) → e < m → at closings e ≡ 0 → at labels j ≤ at labels e
       pop_near e h z = omega (arith, S.nearest.least e (omega (arith, T.labels_long)) jl, pop_open)
 
-      ended_free : at owner j ≡ none → (leaver' : ℕ) → Ended cells m (length prices) pairing owner prices discounts track (at labels j) j leaver' labels via (closed_at closings j k)
-      ended_free free leaver' = record {
+      ended_free : at owner j ≡ none → Ended cells m (length prices) pairing owner prices discounts track (at labels j) (Free j) labels via (closed_at closings j k)
+      ended_free free = record {
         labels_long = T.labels_long;
         labels_in = T.labels_in;
         via_long = T.via_long;
@@ -124,7 +110,7 @@ module _ {cells : List ℕ} {m track : ℕ} {pairing owner prices discounts : Li
             (T.open_or_closed c h);
         low = low_now T jm pop_open;
         links = λ c h s. link_closed T jm pop_open c (at via c) (T.links c h (omega (arith, low_now T jm pop_open c h s, pop_low, T.leaving_in)));
-        end = inl (jm, (free, (omega (arith, closings_j T jm pop_open), refl)));
+        ends = (jm, (free, (omega (arith, closings_j T jm pop_open), refl)));
       }
 
     module _ (t : is_taken owner j ≡ true) where
@@ -134,15 +120,15 @@ module _ {cells : List ℕ} {m track : ℕ} {pairing owner prices discounts : Li
       pub own_j : Own cells m (length prices) pairing prices discounts j (at owner j)
       own_j = ⊎_elim (λ a. absurd (clash {b = not (eqb (at owner j) none)} (and_right (ltb j (length owner)) _ t) (rw (eq-eqb (at owner j) none a.0) refl))) (λ o. o) (G.matched.owned j next_in (λ e. omega (arith, next_in, G.shape.reports_few)))
 
-      -- place is the track that has report j, as an index; leaving' and leaver' are what leaving a track out then costs, and which
-      pub passed_on : {place leaving' leaver' : ℕ} {labels' via' : List ℕ} → place ≡ at owner j → let cost = at labels j + (left_out - at prices place) in
+      -- leaving' and leaver' are what leaving a track out then costs, and which
+      pub passed_on : {leaving' leaver' : ℕ} {labels' via' : List ℕ} → let cost = at labels j + (left_out - at prices (at owner j)) in
           leaving' ≡ min cost leaving
           → (cost < leaving → leaver' ≡ at owner j) × (leaving ≤ cost → leaver' ≡ leaver)
           → Offered cells m discounts (at labels j) (at prices (at owner j)) (at owner j) labels via labels' via'
           → Tree cells m (length prices) pairing owner prices discounts track leaving' leaver' (k + 1) labels' via' (closed_at closings j k)
-      passed_on {place} {leaving'} {leaver'} q L K S' =
-          let cost = at labels j + (left_out - at prices place) in
-          let e : cost + at prices (at owner j) ≡ at labels j + left_out = omega (arith, ap (at prices) q, G.numbers.price_in (at owner j) own_j.there) in
+      passed_on {leaving'} {leaver'} L K S' =
+          let cost = at labels j + (left_out - at prices (at owner j)) in
+          let e : cost + at prices (at owner j) ≡ at labels j + left_out = omega (arith, G.numbers.price_in (at owner j) own_j.there) in
           advance T next_in (pop_open next_in) G.numbers (pop_low next_in) (pop_near next_in) own_j
           (omega arith) (omega arith)
           (omega (arith, pop_low next_in))
@@ -184,7 +170,7 @@ module _ {cells : List ℕ} {m track : ℕ} {pairing owner prices discounts : Li
         (λ o. absurd (clash {b = is_taken owner j} (and_both (lt-ltb j (length owner) (omega (arith, G.shape.owner_long))) (rw (ne_eqb (at owner j) none (λ z. omega (arith, o.there, G.shape.tracks_few))) refl)) t))
         (G.matched.owned j jm (λ e. omega (arith, G.shape.reports_few)))
 
-    ended_leave : m ≤ j → Ended cells m (length prices) pairing owner prices discounts track leaving none leaver labels via closings
+    ended_leave : m ≤ j → Ended cells m (length prices) pairing owner prices discounts track leaving (LeftOut leaver) labels via closings
     ended_leave out = record {
       labels_long = T.labels_long;
       labels_in = T.labels_in;
@@ -195,15 +181,13 @@ module _ {cells : List ℕ} {m track : ℕ} {pairing owner prices discounts : Li
       near = λ c h l. ⊎_elim (λ z. absurd (omega (arith, S.nearest.nobody c (omega (arith, T.labels_long)) (omega (arith, T.labels_long))))) (λ s. T.closed c h s.0) (T.open_or_closed c h);
       low = λ c h s. (T.closed c h s).low;
       links = λ c h s. T.links c h (T.under c h s);
-      end = inr (refl, T.last);
+      ends = T.last;
     }
 
-    pub endable : Endable m k labels closings
-    endable = record { labels_long = T.labels_long; closings_long = T.closings_long; reports_few = G.shape.reports_few; closed_few = few }
-
     -- the search has ended: next is not taken
-    pub ended : {closings' : List ℕ} {reach report left : ℕ} → is_taken owner j ≡ false → EndsAt m leaving leaver k j labels closings closings' reach report left
-        → Ended cells m (length prices) pairing owner prices discounts track reach report left labels via closings'
-    ended {closings'} {reach} {report} {left} t E = ⊎_elim
-        (λ out. let e = E.nowhere out in rw (e.0, e.1.0, e.1.1.0, e.1.1.1) (ended_leave out))
-        (λ jm. let e = E.free jm in rw (e.0, e.1.0, e.1.1) (ended_free jm (free_j jm t) left)) (le_or_lt m j)
+    pub ended : {labels' via' closings' : List ℕ} {reach : ℕ} {end : End} → is_taken owner j ≡ false
+        → EndsAt (length labels) leaving leaver k j labels closings closings' reach end × ((labels' ≡ labels) × (via' ≡ via))
+        → Ended cells m (length prices) pairing owner prices discounts track reach end labels' via' closings'
+    ended t (E, (l, v)) = ⊎_elim
+        (λ out. let e = E.nowhere (omega (arith, T.labels_long)) in rw (l, v, e.0, e.1.0, e.1.1) (ended_leave out))
+        (λ jm. let e = E.free (omega (arith, T.labels_long)) in rw (l, v, e.0, e.1.0, e.1.1) (ended_free jm (free_j jm t))) (le_or_lt m j)

@@ -5,3 +5,4 @@ pub mod Growth
 pub mod Raised
 pub mod Swap
 pub mod Finished
+pub mod Same

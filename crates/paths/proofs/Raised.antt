@@ -8,18 +8,25 @@ use lib.ListN.{length, set, length-set}
 use lib.Seq.{get_or-set_same, get_or-set_other}
 use Rattle.laws.specs.Lists.{at}
 use Rattle.matching.specs.Pairing.{none, left_out}
-use Rattle.passes.specs.Cells.{Searched, Paid, far, PricesUp, DiscountsUp}
-use Rattle.paths.specs.State.{cell, Shape, Prices, Own, Match, Closed, Link, Tight, Searchable, Ended, Finishable, Finished, PairedOrOut, Inserted, Reached}
+use Rattle.passes.specs.Cells.{Searched, far, PricesUp, DiscountsUp}
+use Rattle.paths.specs.State.{OnEnd, cell, Shape, Prices, Own, Match, Closed, Link, Tight, Searchable, Ended, Finishable, Finished, PairedOrOut, Inserted, Reached}
+use Rattle.paths.specs.declared.End.{End}
+use Rattle.paths.specs.declared.End.TheVariants.{Free, LeftOut}
 use Rattle.laws.proofs.Stores.{le_or_lt, same_or}
 use Rattle.paths.proofs.Swap.{reshaped, free_zero}
 
+-- what follows of a free report, and of a track that is left out, follows of the end of a search
+on_end : (end : End) {P Q P' Q' : ℕ → Type 0} → ((report : ℕ) → P report → P' report) → ((track : ℕ) → Q track → Q' track) → OnEnd end P Q → OnEnd end P' Q'
+on_end (Free report) f g a = f report a
+on_end (LeftOut track) f g a = g track a
+
 -- what the search leaves
-pub searched : {cells : List ℕ} {m n track : ℕ} {pairing owner prices discounts : List ℕ} {reach report leaver : ℕ} {labels via closings : List ℕ}
-    → Ended cells m n pairing owner prices discounts track reach report leaver labels via closings → Searched labels reach
+pub searched : {cells : List ℕ} {m n track : ℕ} {pairing owner prices discounts : List ℕ} {reach : ℕ} {end : End} {labels via closings : List ℕ}
+    → Ended cells m n pairing owner prices discounts track reach end labels via closings → Searched labels reach
 searched E = record { reach_in = omega (arith, E.price_in); labels_in = λ j h. E.labels_in j (omega (arith, E.labels_long)) }
 
 module _ {cells : List ℕ} {m track : ℕ} {pairing owner prices discounts labels₀ via₀ closings₀ : List ℕ} (R : Searchable cells m track pairing owner prices discounts labels₀ via₀ closings₀)
-    {reach report leaver : ℕ} {labels via closings : List ℕ} (E : Ended cells m (length prices) pairing owner prices discounts track reach report leaver labels via closings)
+    {reach : ℕ} {end : End} {labels via closings : List ℕ} (E : Ended cells m (length prices) pairing owner prices discounts track reach end labels via closings)
     {prices₁ discounts₁ : List ℕ} (PU : PricesUp pairing labels reach prices prices₁) (DU : DiscountsUp labels reach discounts discounts₁) where
   abbrev n : ℕ
   n = length prices
@@ -110,7 +117,7 @@ module _ {cells : List ℕ} {m track : ℕ} {pairing owner prices discounts labe
         (λ a. inr (a.0, (a.1.0, ⊎_elim (λ z. absurd (omega arith)) (λ b. b) a.1.1.0))) x.how;
   }
 
-  finishable_track : Finishable cells m n prices₂ discounts₁ track via closings report leaver pairing owner
+  finishable_track : Finishable cells m n prices₂ discounts₁ track via closings end pairing owner
   finishable_track = record {
     shape = shape₂;
     via_long = E.via_long;
@@ -119,14 +126,9 @@ module _ {cells : List ℕ} {m track : ℕ} {pairing owner prices discounts labe
     unpaired = R.unpaired;
     matched = match₂;
     way_back = λ b. record { step = λ c g s l. tight₂ c g s (at via c) (E.links c g s) };
-    end = ⊎_elim (λ a. inl (a.0, (a.1.0, a.1.1.0)))
-        (λ a. inr (
-          a.0,
-          ⊎_elim (λ b. inl (b.0, omega (arith, price_track, b.1)))
-              (λ b. inr (b.0, (b.1.0, (b.1.1.0, omega (arith, price_paired leaver b.0 b.1.0, b.1.1.1, E.low (at pairing leaver) b.1.0 b.1.1.0)))))
-              a.1,
-        ))
-        E.end;
+    ends = on_end end (λ report a. (a.0, (a.1.0, a.1.1.0)))
+        (λ leaver a. ⊎_elim (λ b. inl (b.0, omega (arith, price_track, b.1)))
+        (λ b. inr (b.0, (b.1.0, (b.1.1.0, omega (arith, price_paired leaver b.0 b.1.0, b.1.1.1, E.low (at pairing leaver) b.1.0 b.1.1.0))))) a) E.ends;
   }
 
   inserted_track : {pairing' owner' : List ℕ} → Finished cells m n prices₂ discounts₁ track pairing owner pairing' owner' → Inserted cells m n track pairing prices pairing' owner' prices₂ discounts₁
@@ -159,37 +161,18 @@ module _ {cells : List ℕ} {m track : ℕ} {pairing owner prices discounts labe
     rise = λ i j h g p z a. rises i j h g (S.moved.came_in i h p) (S.moved.free j g z) a;
   }
 
-  -- place is the track, as an index
-  module _ {place : ℕ} (e : place ≡ track) where
-    abbrev prices_now : List ℕ
-    prices_now = set prices₁ place (at prices₁ place + reach)
+  prices₂_long : length prices₂ ≡ length prices
+  prices₂_long = simp length-set PU.prices_long
 
-    pub price_small : at prices₁ place + reach ≤ left_out
-    price_small = omega (arith, ap (at prices₁) e, price₁_track, E.price_in)
+  pub finishable : Finishable cells m (length prices₂) prices₂ discounts₁ track via closings end pairing owner
+  finishable = subst (λ (k : ℕ). Finishable cells m k prices₂ discounts₁ track via closings end pairing owner) (sym prices₂_long) finishable_track
 
-    prices_now_long : length prices_now ≡ length prices
-    prices_now_long = simp length-set PU.prices_long
+  module _ {pairing' owner' : List ℕ} (S : Finished cells m (length prices₂) prices₂ discounts₁ track pairing owner pairing' owner') where
+    finished_track : Finished cells m n prices₂ discounts₁ track pairing owner pairing' owner'
+    finished_track = subst (λ (k : ℕ). Finished cells m k prices₂ discounts₁ track pairing owner pairing' owner') prices₂_long S
 
-    pub finishable : Finishable cells m (length prices_now) prices_now discounts₁ track via closings report leaver pairing owner
-    finishable = subst (λ (k : ℕ). Finishable cells m k prices_now discounts₁ track via closings report leaver pairing owner) (sym prices_now_long) (rw e finishable_track)
+    pub inserted : Inserted cells m n track pairing prices pairing' owner' prices₂ discounts₁
+    inserted = inserted_track finished_track
 
-    module _ {pairing' owner' : List ℕ} (S : Finished cells m (length prices_now) prices_now discounts₁ track pairing owner pairing' owner') where
-      finished_track : Finished cells m n prices₂ discounts₁ track pairing owner pairing' owner'
-      finished_track = (rw e at (subst (λ (k : ℕ). Finished cells m k prices_now discounts₁ track pairing owner pairing' owner') prices_now_long S))
-
-      pub inserted : Inserted cells m n track pairing prices pairing' owner' prices_now discounts₁
-      inserted = rw e (inserted_track finished_track)
-
-      pub reached : Reached cells m n pairing owner prices labels reach pairing' owner' prices_now
-      reached = rw e (reached_track finished_track)
-
--- a report nearer than reach is its owner's
-pub paid : {cells : List ℕ} {m track : ℕ} {pairing owner prices discounts labels₀ via₀ closings₀ : List ℕ} {reach report leaver : ℕ} {labels via closings : List ℕ}
-    → Searchable cells m track pairing owner prices discounts labels₀ via₀ closings₀ → Ended cells m (length prices) pairing owner prices discounts track reach report leaver labels via closings → Paid pairing owner labels prices reach
-paid R E = record {
-  searched = searched E;
-  owner_long = omega (arith, R.good.shape.owner_long, E.labels_long);
-  small = λ i h. omega (arith, E.price_in, R.good.numbers.price_in i h);
-  mine = λ i h p. ⊎_elim (λ z. absurd (omega (arith, E.labels_long, R.good.shape.reports_few))) (λ z. z.1.1) (R.good.matched.paired i h);
-  near = λ j h l. let K = (E.near j (omega (arith, E.labels_long)) l).own in (K.there, K.back);
-}
+    pub reached : Reached cells m n pairing owner prices labels reach pairing' owner' prices₂
+    reached = reached_track finished_track

@@ -6,7 +6,8 @@ use mathlib.Core.Logic.{inl, ⊎_elim}
 use native.Mathlib.Omega.{arith}
 use native.Mathlib.Nat.{le_refl}
 use borrow.Rule.Slice.PartMut.{put_mid, same_len_mid}
-use lib.ListN.{length}
+use lib.ListN.{length, take, drop, length-drop}
+use lib.Seq.{get_or-take, get_or-drop, length-take-le}
 use Rattle.laws.proofs.Sums.{row_in}
 use Rattle.laws.proofs.Parts.{part, part_length, part_at, put_before, put_in}
 use Rattle.laws.proofs.Stores.{le_or_lt}
@@ -14,32 +15,32 @@ use Rattle.laws.specs.Lists.{at}
 use Rattle.passes.specs.Cells.{Step, Fair, Relaxed}
 use Rattle.paths.specs.State.{cell, Offerable, Offered}
 
--- row i, and row i from front on
-abbrev pub row : List ℕ → ℕ → ℕ → List ℕ
-row cells m i = part cells (i * m) (i * m + m)
-
-abbrev row_from : List ℕ → ℕ → ℕ → ℕ → List ℕ
-row_from cells m i front = part cells (i * m + front) (i * m + m)
-
 -- a list from front on
 abbrev pub rest : List ℕ → ℕ → List ℕ
 rest xs front = part xs front (length xs)
+
+-- row i, and row i from front on
+abbrev pub row : List ℕ → ℕ → ℕ → List ℕ
+row cells m i = take m (drop (i * m) cells)
+
+abbrev row_from : List ℕ → ℕ → ℕ → ℕ → List ℕ
+row_from cells m i front = rest (row cells m i) front
 
 module _ (cells : List ℕ) (m n i : ℕ) (h : i < n) (l : length cells ≡ n * m) where
   pub row_end : i * m + m ≤ length cells
   row_end = row_in i n m (length cells) h (omega arith)
 
   pub row_length : length (row cells m i) ≡ m
-  row_length = part_length cells (i * m) (i * m + m) row_end ∙ omega arith
+  row_length = length-take-le m (drop (i * m) cells) (rw length-drop (omega (arith, row_end)))
 
   pub row_at : (k : ℕ) → k < m → at (row cells m i) k ≡ cell cells m i k
-  row_at k g = part_at cells (i * m) (i * m + m) k (omega arith)
+  row_at k g = get_or-take m (drop (i * m) cells) k 0 g ∙ get_or-drop (i * m) cells k 0
 
   from_length : (front : ℕ) → front ≤ m → length (row_from cells m i front) ≡ m - front
-  from_length front g = part_length cells (i * m + front) (i * m + m) row_end ∙ omega arith
+  from_length front g = part_length (row cells m i) front (length (row cells m i)) (le_refl _) ∙ ap (λ (x : ℕ). x - front) row_length
 
   from_at : (front k : ℕ) → k < m - front → at (row_from cells m i front) k ≡ cell cells m i (front + k)
-  from_at front k g = part_at cells (i * m + front) (i * m + m) k (omega arith) ∙ ap (at cells) (omega arith)
+  from_at front k g = part_at (row cells m i) front (length (row cells m i)) k (omega (arith, row_length)) ∙ row_at (front + k) (omega arith)
 
 module _ (cells : List ℕ) (m front i from : ℕ) (prices discounts labels via : List ℕ) (F : Offerable cells m front i from prices discounts labels via) where
   abbrev n : ℕ
@@ -73,8 +74,8 @@ module _ (cells : List ℕ) (m front i from : ℕ) (prices discounts labels via 
       rest_labels_long : length (rest labels front) ≡ m - front
       rest_labels_long = rest_length labels F.labels_long
 
-  pub fair : (place : ℕ) → place ≡ i → Fair (row_from cells m place front) (rest discounts front) (rest labels front) (rest via front) from (at prices place)
-  fair place q = rw q fair_i
+  pub fair : (cells_i : List ℕ) → cells_i ≡ row cells m i → Fair (rest cells_i front) (rest discounts front) (rest labels front) (rest via front) from (at prices i)
+  fair cells_i e = rw e fair_i
 
   -- the whole list after the offers, from what stands from front on
   abbrev whole : List ℕ → List ℕ → List ℕ
@@ -118,6 +119,6 @@ module _ (cells : List ℕ) (m front i from : ℕ) (prices discounts labels via 
             why = inl (refl, refl);
           })
 
-  pub offered : (place : ℕ) → place ≡ i → (labels_on via-on : List ℕ) → Relaxed (row_from cells m place front) (rest discounts front) from (at prices place) i (rest labels front) (rest via front) labels_on via-on
+  pub offered : (cells_i : List ℕ) → cells_i ≡ row cells m i → (labels_on via-on : List ℕ) → Relaxed (rest cells_i front) (rest discounts front) from (at prices i) i (rest labels front) (rest via front) labels_on via-on
       → Offered cells m discounts from (at prices i) i labels via (whole labels labels_on) (whole via via-on)
-  offered place q labels_on via-on R = offered_i labels_on via-on (rw q at R)
+  offered cells_i e labels_on via-on R = offered_i labels_on via-on (rw e at R)

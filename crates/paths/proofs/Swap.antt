@@ -4,7 +4,7 @@ use mathlib.Core.Path.{◌≡◌, refl, ap, sym, ◌∙◌}
 use mathlib.Core.List.{List}
 use mathlib.Core.Logic.{◌⊎◌, inl, inr, ⊎_elim}
 use native.Mathlib.Omega.{arith}
-use lib.ListN.{length, set, length-set, get_or-eq_default}
+use lib.ListN.{length, set, length-set}
 use lib.Seq.{get_or-set_same, get_or-set_other}
 use Rattle.laws.specs.Lists.{at}
 use Rattle.matching.specs.Pairing.{none}
@@ -146,9 +146,9 @@ module _ (cells : List ℕ) (m n : ℕ) (prices discounts pairing : List ℕ) (t
   pub way_back_set : WayBack cells m n (set pairing i v) prices discounts track via closings (at closings (at pairing i))
   way_back_set = record { step = λ c g s l. tight_set c l (at via c) (K.step c g s (omega arith)) }
 
-module _ (cells : List ℕ) (m n : ℕ) (prices discounts : List ℕ) (track : ℕ) (via closings pairing₀ owner₀ pairing owner : List ℕ) (vacant : ℕ)
+module _ {cells : List ℕ} {m n : ℕ} {prices discounts : List ℕ} {track : ℕ} {via closings pairing₀ owner₀ pairing owner : List ℕ} {vacant : ℕ}
     (F : Flips cells m n prices discounts track via closings pairing₀ owner₀ pairing owner vacant) (some : vacant ≡ none → ⊥) where
-  pub vacancy : Vacant cells m n prices discounts track via closings pairing owner vacant
+  vacancy : Vacant cells m n prices discounts track via closings pairing owner vacant
   vacancy = ⊎_elim (λ x. x) (λ x. absurd (some x.0)) F.state
 
   abbrev i : ℕ
@@ -190,8 +190,8 @@ module _ (cells : List ℕ) (m n : ℕ) (prices discounts : List ℕ) (track : �
       }))
       tight_vacant.next
 
-  flip_vacant : Flips cells m n prices discounts track via closings pairing₀ owner₀ pairing_now (set owner vacant i) (at pairing i)
-  flip_vacant = record {
+  pub flip_step : Flips cells m n prices discounts track via closings pairing₀ owner₀ pairing_now (set owner vacant i) (at pairing i)
+  flip_step = record {
     shape = shape' cells m n prices discounts pairing owner F.shape vacant vacancy.vacant_in vacancy.matched i tight_vacant.there tight_vacant.admissible tight_vacant.tight;
     via_long = F.via_long;
     closings_long = F.closings_long;
@@ -200,18 +200,3 @@ module _ (cells : List ℕ) (m n : ℕ) (prices discounts : List ℕ) (track : �
     kept = kept_now;
     state = state_now;
   }
-
-  pub flip_step : (place taker : ℕ) → place ≡ vacant → taker ≡ at via place → Flips cells m n prices discounts track via closings pairing₀ owner₀ (set pairing taker vacant) (set owner place (at via place)) (at pairing taker)
-  flip_step place taker ep et = rw (et, ep) flip_vacant
-
-  fall_vacant : at closings (at pairing i) < at closings vacant
-  fall_vacant = ⊎_elim
-      (λ q. let z : at pairing i ≡ none = ap (at pairing) q ∙ vacancy.unpaired in
-      omega (arith, vacancy.vacant_closed, ap (at closings) z, get_or-eq_default closings 0 {n = none} (omega (arith, F.closings_long, F.shape.reports_few))))
-      (λ a. a.1.1) tight_vacant.next
-
-  pub fall : (place taker : ℕ) → place ≡ vacant → taker ≡ at via place → at closings (at pairing taker) < at closings vacant
-  fall place taker ep et = rw (et, ep) fall_vacant
-
-  pub taker_in : (place taker : ℕ) → place ≡ vacant → taker ≡ at via place → taker < n
-  taker_in place taker ep et = rw (et, ep) tight_vacant.there

@@ -4,6 +4,8 @@ use Rattle.std.specs.Prelude.{ℕ, zero, suc, ◌+◌, ◌-◌, ◌*◌, ◌≤�
 use Rattle.laws.specs.Lists.{at}
 use Rattle.matching.specs.Pairing.{none, left_out, most_tracks}
 use Rattle.passes.specs.Cells.{far, Step, IsCell, Nearest, Searched}
+use Rattle.paths.specs.declared.End.{End}
+use Rattle.paths.specs.declared.End.TheVariants.{Free, LeftOut}
 
 -- the engine itself takes this many reports, whatever the public call takes
 abbrev pub widest : ℕ
@@ -147,6 +149,11 @@ pub record Standing (cells : List ℕ) (m n : ℕ) (pairing owner prices discoun
 abbrev pub is_taken : List ℕ → ℕ → Bool
 is_taken owner next = ltb next (length owner) && not (eqb (at owner next) none)
 
+-- what holds of the free report that a search finds, or of the track that it leaves out
+abbrev pub OnEnd : End → (ℕ → Type 0) → (ℕ → Type 0) → Type 0
+OnEnd (Free report) OfReport OfTrack = OfReport report
+OnEnd (LeftOut track) OfReport OfTrack = OfTrack track
+
 -- what end_of asks
 pub record Endable (m closed : ℕ) (labels closings : List ℕ) : Type 0 where
   pub labels_long : length labels ≡ m
@@ -155,12 +162,12 @@ pub record Endable (m closed : ℕ) (labels closings : List ℕ) : Type 0 where
   pub closed_few : closed ≤ m
 
 -- what it gives: next is free and is closed, at its label; or there is no next, and leaver is left out
-pub record EndsAt (m leaving leaver closed next : ℕ) (labels closings closings' : List ℕ) (reach report left : ℕ) : Type 0 where
-  pub free : next < m → (reach ≡ at labels next) × ((report ≡ next) × (closings' ≡ closed_at closings next closed))
-  pub nowhere : m ≤ next → (reach ≡ leaving) × ((report ≡ none) × ((left ≡ leaver) × (closings' ≡ closings)))
+pub record EndsAt (m leaving leaver closed next : ℕ) (labels closings closings' : List ℕ) (reach : ℕ) (end : End) : Type 0 where
+  pub free : next < m → (reach ≡ at labels next) × ((end ≡ Free next) × (closings' ≡ closed_at closings next closed))
+  pub nowhere : m ≤ next → (reach ≡ leaving) × ((end ≡ LeftOut leaver) × (closings' ≡ closings))
 
 -- what a search finds: labels, and the label reach, at which a free report is reached or a track is left out
-pub record Ended (cells : List ℕ) (m n : ℕ) (pairing owner prices discounts : List ℕ) (track reach report leaver : ℕ) (labels via closings : List ℕ) : Type 0 where
+pub record Ended (cells : List ℕ) (m n : ℕ) (pairing owner prices discounts : List ℕ) (track reach : ℕ) (end : End) (labels via closings : List ℕ) : Type 0 where
   pub labels_long : length labels ≡ m
   pub labels_in : (j : ℕ) → j < m → at labels j ≤ left_out
   pub via_long : length via ≡ m
@@ -170,8 +177,8 @@ pub record Ended (cells : List ℕ) (m n : ℕ) (pairing owner prices discounts 
   pub near : (c : ℕ) → c < m → at labels c < reach → Closed cells m n pairing prices discounts reach labels c (at owner c)
   pub low : (c : ℕ) → c < m → far ≤ at closings c → at labels c ≤ reach
   pub links : (c : ℕ) → c < m → far ≤ at closings c → Link cells m n pairing prices discounts track labels closings c (at via c)
-  pub end : ((report < m) × ((at owner report ≡ none) × ((far ≤ at closings report) × (at labels report ≡ reach))))
-      ⊎ ((report ≡ none) × Leaves m n pairing prices track labels closings reach leaver)
+  pub ends : OnEnd end (λ report. (report < m) × ((at owner report ≡ none) × ((far ≤ at closings report) × (at labels report ≡ reach))))
+      (λ leaver. Leaves m n pairing prices track labels closings reach leaver)
 
 -- the reports on the way back: each is tight at the track via which it was reached, and that track's report comes earlier
 pub record Tight (cells : List ℕ) (m n : ℕ) (pairing prices discounts : List ℕ) (track : ℕ) (closings : List ℕ) (c i : ℕ) : Type 0 where
@@ -225,7 +232,7 @@ OutAtFullPrice m n pairing prices track closings leaver = ((leaver ≡ track) ×
     ⊎ ((leaver < n) × ((at pairing leaver < m) × ((far ≤ at closings (at pairing leaver)) × (at prices leaver ≡ left_out))))
 
 -- the pairing is to be changed along the way back from a free report, or from the report of a track that is left out
-pub record Finishable (cells : List ℕ) (m n : ℕ) (prices discounts : List ℕ) (track : ℕ) (via closings : List ℕ) (report leaver : ℕ) (pairing owner : List ℕ) : Type 0 where
+pub record Finishable (cells : List ℕ) (m n : ℕ) (prices discounts : List ℕ) (track : ℕ) (via closings : List ℕ) (end : End) (pairing owner : List ℕ) : Type 0 where
   pub shape : Shape cells m n pairing owner prices discounts
   pub via_long : length via ≡ m
   pub closings_long : length closings ≡ m
@@ -233,8 +240,8 @@ pub record Finishable (cells : List ℕ) (m n : ℕ) (prices discounts : List �
   pub unpaired : at pairing track ≡ none
   pub matched : Match cells m n pairing owner prices discounts none
   pub way_back : (b : ℕ) → WayBack cells m n pairing prices discounts track via closings b
-  pub end : ((report < m) × ((at owner report ≡ none) × (far ≤ at closings report)))
-      ⊎ ((report ≡ none) × OutAtFullPrice m n pairing prices track closings leaver)
+  pub ends : OnEnd end (λ report. (report < m) × ((at owner report ≡ none) × (far ≤ at closings report)))
+      (λ leaver. OutAtFullPrice m n pairing prices track closings leaver)
 
 -- track i is paired, or left out at the full price
 abbrev pub PairedOrOut : ℕ → List ℕ → List ℕ → ℕ → Type 0

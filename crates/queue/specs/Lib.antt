@@ -1,2 +1,3 @@
 -- The slacks that let all pairs rise together.
 pub mod State
+pub mod Held

@@ -3,246 +3,119 @@
 // report before it goes through them.
 #![tactic(auto)]
 
-ghost use Rattle.std.specs.Prelude.{◌≡◌, ◌+◌, ◌<◌, ◌≤◌, length};
+ghost use Rattle.std.specs.Prelude.{◌≡◌, ◌+◌, ◌<◌, length};
 ghost use Rattle.laws.specs.Lists.{at};
 ghost use Rattle.matching.specs.Pairing.{none};
 ghost use Rattle.lifting.specs.Slack.{Small};
-ghost use Rattle.paths.specs.State.{Good, SearchLists};
-ghost use Rattle.queue.specs.State.{Slack, Lifting};
+ghost use Rattle.paths.specs.Held.{SamePairs, SameTree, Good, SearchLists, Ready, ReadyAgain};
+ghost use Rattle.queue.specs.Held.{SamePairing, Slack, Lifting};
 
 use lifting::{bound_slack, highest, least_slack, next_track, raise_paired, spend, tighten};
-use matching::{LEFT_OUT, NONE};
-use passes::fill;
-use paths::insert;
+use matching::{LEFT_OUT, NONE, Sheet};
+use paths::{Pairs, Tree, insert};
 
 // A search that closes as many reports is long.
 const LONG_SEARCH: u32 = 20;
 
 // A track in a pair bounds the slack of each report of its row.
-fn bound_by_pair(
-    sheet: &[u32],
-    reports: usize,
-    track: usize,
-    pairing: &[u32],
-    owner: &[u32],
-    prices: &[u32],
-    discounts: &[u32],
-    slack: &mut [u32],
-)
-    requires { Good sheet.now reports (length prices.now) pairing.now owner.now prices.now discounts.now × ((track < length prices.now) × Slack sheet.now reports track pairing.now owner.now prices.now slack.old) }
-    ensures { Slack sheet.now reports (track + 1) pairing.now owner.now prices.now slack.new }
+fn bound_by_pair(sheet: Sheet, track: usize, pairs: &Pairs<'_>, slack: &mut [u32])
+    requires { Good sheet (length pairs.now.prices.now) pairs.now × ((track < length pairs.now.prices.now) × Slack sheet track pairs.now slack.old) }
+    ensures { Slack sheet.entry (track + 1) pairs.now slack.new }
 {
-    if pairing[track] == NONE {
+    if pairs.pairing[track] == NONE {
         return;
     }
-    let price = prices[track];
-    let row = track * reports;
-    let row_end = row + reports;
-    bound_slack(&sheet[row..row_end], price, slack);
+    bound_slack(sheet.row(track), pairs.prices[track], slack);
 }
 
 // Every track in a pair does.
-fn bound_by_pairs(
-    sheet: &[u32],
-    reports: usize,
-    pairing: &[u32],
-    owner: &[u32],
-    prices: &[u32],
-    discounts: &[u32],
-    slack: &mut [u32],
-)
-    requires { Good sheet.now reports (length prices.now) pairing.now owner.now prices.now discounts.now × ((length slack.old ≡ reports) × Small slack.old) }
-    ensures { Slack sheet.now reports (length prices.now) pairing.now owner.now prices.now slack.new }
+fn bound_by_pairs(sheet: Sheet, pairs: &Pairs<'_>, slack: &mut [u32])
+    requires { Good sheet (length pairs.now.prices.now) pairs.now × ((length slack.old ≡ sheet.reports) × Small slack.old) }
+    ensures { Slack sheet.entry (length pairs.now.prices.now) pairs.now slack.new }
 {
-    let mut track: usize = 0;
-    while track < prices.len() {
-        bound_by_pair(
-            sheet, reports, track, pairing, owner, prices, discounts, slack,
-        );
-        track += 1;
+    for track in 0..pairs.prices.len() {
+        bound_by_pair(sheet, track, pairs, slack);
     }
 }
 
 // All pairs rise together, as far as the free reports and the full price allow.
-fn lift(
-    sheet: &[u32],
-    reports: usize,
-    pairing: &[u32],
-    owner: &[u32],
-    prices: &mut [u32],
-    discounts: &mut [u32],
-    slack: &mut [u32],
-)
-    requires { Lifting sheet.now reports (length prices.old) pairing.now owner.now prices.old discounts.old slack.old }
-    ensures { Lifting sheet.now reports (length prices.old) pairing.now owner.now prices.new discounts.new slack.new }
+fn lift(sheet: Sheet, pairs: &mut Pairs<'_>, slack: &mut [u32])
+    requires { Lifting sheet (length pairs.old.prices.now) pairs.old slack.old }
+    ensures { SamePairs pairs.old pairs.new × (SamePairing pairs.old pairs.new × Lifting sheet.entry (length pairs.old.prices.now) pairs.new slack.new) }
 {
-    let rise = least_slack(owner, slack).min(LEFT_OUT - highest(prices));
+    let free = least_slack(&mut *pairs.owner, slack);
+    let rise = free.min(LEFT_OUT - highest(&mut *pairs.prices));
     if rise == 0 {
         return;
     }
-    raise_paired(owner, rise, discounts);
-    raise_paired(pairing, rise, prices);
+    raise_paired(&mut *pairs.owner, rise, &mut *pairs.discounts);
+    raise_paired(&mut *pairs.pairing, rise, &mut *pairs.prices);
     spend(slack, rise);
 }
 
 // One track is inserted, after all pairs have risen.
 fn lifted_insert(
-    sheet: &[u32],
-    reports: usize,
+    sheet: Sheet,
     track: u32,
-    pairing: &mut [u32],
-    owner: &mut [u32],
-    prices: &mut [u32],
-    discounts: &mut [u32],
-    labels: &mut [u32],
-    via: &mut [u32],
-    closings: &mut [u32],
+    pairs: &mut Pairs<'_>,
+    tree: &mut Tree<'_>,
     slack: &mut [u32],
 )
-    requires { Lifting sheet.now reports (length prices.old) pairing.old owner.old prices.old discounts.old slack.old × (SearchLists reports labels.old via.old closings.old × ((track < length prices.old) × (at pairing.old track ≡ none))) }
-    ensures { Lifting sheet.now reports (length prices.old) pairing.new owner.new prices.new discounts.new slack.new }
+    requires { Lifting sheet (length pairs.old.prices.now) pairs.old slack.old × (SearchLists sheet tree.old × ((track < length pairs.old.prices.now) × (at pairs.old.pairing.now track ≡ none))) }
+    ensures { (SamePairs pairs.old pairs.new × SameTree tree.old tree.new) × (Lifting sheet.entry (length pairs.old.prices.now) pairs.new slack.new × SearchLists sheet.entry tree.new) }
 {
-    lift(sheet, reports, pairing, owner, prices, discounts, slack);
-    let r = insert(
-        sheet, reports, track, pairing, owner, prices, discounts, labels, via, closings,
-    );
-    let reach = r.label;
-    tighten(labels, reach, slack);
+    lift(sheet, pairs, slack);
+    let reach = insert(sheet, track, pairs, tree);
+    tighten(&mut *tree.labels, reach.label, slack);
 }
 
 // Insertions until no track is in the queue.
-fn lifted_inserts(
-    sheet: &[u32],
-    reports: usize,
-    pairing: &mut [u32],
-    owner: &mut [u32],
-    prices: &mut [u32],
-    discounts: &mut [u32],
-    labels: &mut [u32],
-    via: &mut [u32],
-    closings: &mut [u32],
-    slack: &mut [u32],
-)
-    requires { Lifting sheet.now reports (length prices.old) pairing.old owner.old prices.old discounts.old slack.old × SearchLists reports labels.old via.old closings.old }
-    ensures { Good sheet.now reports (length prices.old) pairing.new owner.new prices.new discounts.new }
+fn lifted_inserts(sheet: Sheet, pairs: &mut Pairs<'_>, tree: &mut Tree<'_>, slack: &mut [u32])
+    requires { Lifting sheet (length pairs.old.prices.now) pairs.old slack.old × SearchLists sheet tree.old }
+    ensures { ReadyAgain sheet.entry pairs.old tree.old pairs.new tree.new }
 {
-    let mut round: usize = 0;
-    while round < prices.len() {
-        let Some(next) = next_track(pairing, prices) else {
+    for _ in 0..pairs.prices.len() {
+        let Some(track) = next_track(&mut *pairs.pairing, &mut *pairs.prices) else {
             return;
         };
-        lifted_insert(
-            sheet,
-            reports,
-            next,
-            pairing,
-            owner,
-            prices,
-            discounts,
-            labels,
-            via,
-            closings,
-            slack,
-        );
-        round += 1;
-    }
-}
-
-// The rounds end with a long search.
-fn next_round(round: usize, rounds: usize, closed: u32) -> usize
-    requires { round < rounds }
-    ensures { (round < result) × (result ≤ rounds) }
-{
-    if closed >= LONG_SEARCH {
-        rounds
-    } else {
-        round + 1
+        lifted_insert(sheet, track, pairs, tree, slack);
     }
 }
 
 // Insertions until no track is in the queue, or a search was long.
-fn first_inserts(
-    sheet: &[u32],
-    reports: usize,
-    pairing: &mut [u32],
-    owner: &mut [u32],
-    prices: &mut [u32],
-    discounts: &mut [u32],
-    labels: &mut [u32],
-    via: &mut [u32],
-    closings: &mut [u32],
-)
-    requires { Good sheet.now reports (length prices.old) pairing.old owner.old prices.old discounts.old × SearchLists reports labels.old via.old closings.old }
-    ensures { Good sheet.now reports (length prices.old) pairing.new owner.new prices.new discounts.new }
+fn first_inserts(sheet: Sheet, pairs: &mut Pairs<'_>, tree: &mut Tree<'_>)
+    requires { Ready sheet pairs.old tree.old }
+    ensures { ReadyAgain sheet.entry pairs.old tree.old pairs.new tree.new }
 {
-    let mut round: usize = 0;
-    while round < prices.len() {
-        let Some(next) = next_track(pairing, prices) else {
+    for _ in 0..pairs.prices.len() {
+        let Some(track) = next_track(&mut *pairs.pairing, &mut *pairs.prices) else {
             return;
         };
-        let r = insert(
-            sheet,
-            reports,
-            next,
-            pairing,
-            owner,
-            prices,
-            discounts,
-            labels,
-            via,
-            closings,
-        );
-        let closed = r.closed;
-        round = next_round(round, prices.len(), closed);
+        let reach = insert(sheet, track, pairs, tree);
+        if reach.closed >= LONG_SEARCH {
+            return;
+        }
     }
 }
 
 // The insertions that are left, if any, with all pairs rising before each.
-fn later_inserts(
-    sheet: &[u32],
-    reports: usize,
-    pairing: &mut [u32],
-    owner: &mut [u32],
-    prices: &mut [u32],
-    discounts: &mut [u32],
-    labels: &mut [u32],
-    via: &mut [u32],
-    closings: &mut [u32],
-    slack: &mut [u32],
-)
-    requires { Good sheet.now reports (length prices.old) pairing.old owner.old prices.old discounts.old × (SearchLists reports labels.old via.old closings.old × (length slack.old ≡ reports)) }
-    ensures { Good sheet.now reports (length prices.old) pairing.new owner.new prices.new discounts.new }
+fn later_inserts(sheet: Sheet, pairs: &mut Pairs<'_>, tree: &mut Tree<'_>, slack: &mut [u32])
+    requires { Ready sheet pairs.old tree.old × (length slack.old ≡ sheet.reports) }
+    ensures { ReadyAgain sheet.entry pairs.old tree.old pairs.new tree.new }
 {
-    if next_track(pairing, prices).is_none() {
+    if next_track(&mut *pairs.pairing, &mut *pairs.prices).is_none() {
         return;
     }
-    fill(slack, LEFT_OUT);
-    bound_by_pairs(sheet, reports, pairing, owner, prices, discounts, slack);
-    lifted_inserts(
-        sheet, reports, pairing, owner, prices, discounts, labels, via, closings, slack,
-    );
+    slack.fill(LEFT_OUT);
+    bound_by_pairs(sheet, pairs, slack);
+    lifted_inserts(sheet, pairs, tree, slack);
 }
 
 // Every track in the queue is inserted. Which one is first decides the time, not what is found.
-pub fn insert_all(
-    sheet: &[u32],
-    reports: usize,
-    pairing: &mut [u32],
-    owner: &mut [u32],
-    prices: &mut [u32],
-    discounts: &mut [u32],
-    labels: &mut [u32],
-    via: &mut [u32],
-    closings: &mut [u32],
-    slack: &mut [u32],
-)
-    requires { Good sheet.now reports (length prices.old) pairing.old owner.old prices.old discounts.old × (SearchLists reports labels.old via.old closings.old × (length slack.old ≡ reports)) }
-    ensures { Good sheet.now reports (length prices.old) pairing.new owner.new prices.new discounts.new }
+pub fn insert_all(sheet: Sheet, pairs: &mut Pairs<'_>, tree: &mut Tree<'_>, slack: &mut [u32])
+    requires { Ready sheet pairs.old tree.old × (length slack.old ≡ sheet.reports) }
+    ensures { ReadyAgain sheet.entry pairs.old tree.old pairs.new tree.new }
 {
-    first_inserts(
-        sheet, reports, pairing, owner, prices, discounts, labels, via, closings,
-    );
-    later_inserts(
-        sheet, reports, pairing, owner, prices, discounts, labels, via, closings, slack,
-    );
+    first_inserts(sheet, pairs, tree);
+    later_inserts(sheet, pairs, tree, slack);
 }

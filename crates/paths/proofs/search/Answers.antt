@@ -1,25 +1,10 @@
-use native.Mathlib.Omega.{arith}
 use mathlib.Core.Path.{sym, ◌∙◌}
-use Rattle.paths.proofs.Growth.{endable, ended}
+use Rattle.paths.proofs.Growth.{ended}
+use Rattle.paths.proofs.Same.{same_tree}
 use Rattle.paths.proofs.search.Goals as goal
 
-pub set_out-s-requires : goal.set_out-s-requires
-set_out-s-requires c = c.requires
-
-pub loop-labels-init : goal.loop-labels-init
-loop-labels-init c = c.set_out-s.ensures
-
-pub pass_through-s-requires : goal.pass_through-s-requires
-pass_through-s-requires c = record { standing = c.loop-labels.invariant; next_taken = sym c.is_taken.ensures ∙ c.loop-labels-test.true }
-
-pub loop-labels-smaller : goal.loop-labels-smaller
-loop-labels-smaller c = omega (arith, c.pass_through-s.ensures.1, c.pass_through-s.ensures.0.tree.count)
-
-pub loop-labels-preserved : goal.loop-labels-preserved
-loop-labels-preserved c = c.pass_through-s.ensures.0
-
-pub end_of-requires : goal.end_of-requires
-end_of-requires c = endable c.loop-labels.invariant
-
 pub returns : goal.returns
-returns c = ended c.loop-labels.invariant (sym c.is_taken.ensures ∙ c.loop-labels-test.false) c.end_of.ensures
+returns c =
+    let I = c.loop-sheet.invariant in
+    let E = c.end_of.ensures in
+    (same_tree (same_tree c.set_out-s.ensures.0 I.0) E.0, ended I.1 (sym c.is_taken.ensures ∙ c.loop-sheet-test.false) E.1)

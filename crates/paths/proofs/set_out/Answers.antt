@@ -1,28 +1,18 @@
-use native.Mathlib.Omega.{arith}
-use mathlib.Core.Path.{ap}
-use Rattle.laws.specs.Lists.{at}
-use Rattle.paths.proofs.Growth.{fit_root, plant, keys, front_none}
+use mathlib.Core.Path.{refl}
+use Rattle.matching.specs.Pairing.{left_out}
+use Rattle.paths.proofs.Growth.{AllAre, plant, front_none}
 use Rattle.paths.proofs.set_out.Goals as goal
-
-pub offer_from-requires : goal.offer_from-requires
-offer_from-requires c = fit_root c.requires c.fill.ensures
-
-pub overflow_sub-leaving : goal.overflow_sub-leaving
-overflow_sub-leaving c =
-    let R = c.requires in
-    omega (arith, ap (at c.args.prices.now) c.index.ensures, R.good.numbers.price_in _ R.track_in)
-
-pub nearest_from-next-requires : goal.nearest_from-next-requires
-nearest_from-next-requires c =
-    let R = c.requires in
-    keys R.good (plant R c.index.ensures c.fill.ensures c.fill-2.ensures c.offer_from.ensures) (front_none _ _)
 
 pub returns : goal.returns
 returns c =
     let R = c.requires in
-    record {
-      good = R.good;
-      tree = plant R c.index.ensures c.fill.ensures c.fill-2.ensures c.offer_from.ensures;
-      behind = front_none _ _;
-      nearest = c.nearest_from-next.ensures;
-    }
+    let far_off : AllAre c.args.tree.now.labels.now c.fill.new.self left_out = (c.fill.ensures.len, λ k h. c.fill.ensures.clones k 0 h refl) in
+    let all_open : AllAre c.args.tree.now.closings.now c.fill-2.new.self 0 = (c.fill-2.ensures.len, λ k h. c.fill-2.ensures.clones k 0 h refl) in (
+      c.offer_from.ensures.0,
+      record {
+        good = R.good;
+        tree = rw c.offer_from.ensures.1.1 (plant R far_off all_open c.offer_from.ensures.1.0);
+        behind = front_none _ _;
+        nearest = c.nearest-next.ensures;
+      },
+    )

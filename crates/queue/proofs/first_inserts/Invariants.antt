@@ -1,10 +1,5 @@
-use Rattle.paths.specs.State.{Good, SearchLists}
-use Prim.Native.Nat.{◌≤◌, ◌-◌}
-use lib.ListN.{length}
+use Rattle.paths.specs.Held.{ReadyAgain}
 use Rattle.queue.proofs.first_inserts.Given as goal
 
-abbrev pub invariant-loop-round : goal.invariant-loop-round
-invariant-loop-round l = Good l.sheet l.reports (length l.initial.prices) l.pairing l.owner l.prices l.discounts × (SearchLists l.reports l.labels l.via l.closings × (l.round ≤ length l.initial.prices))
-
-abbrev pub decreases-loop-round : goal.decreases-loop-round
-decreases-loop-round l = length l.initial.prices - l.round
+abbrev pub invariant-loop : goal.invariant-loop
+invariant-loop l = ReadyAgain l.sheet l.initial.pairs l.initial.tree l.pairs l.tree

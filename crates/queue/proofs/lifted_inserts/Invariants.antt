@@ -1,11 +1,7 @@
-use Rattle.queue.specs.State.{Lifting}
-use Rattle.paths.specs.State.{SearchLists}
-use Prim.Native.Nat.{◌≤◌, ◌-◌}
 use lib.ListN.{length}
+use Rattle.paths.specs.Held.{SamePairs, SameTree, SearchLists}
+use Rattle.queue.specs.Held.{Lifting}
 use Rattle.queue.proofs.lifted_inserts.Given as goal
 
-abbrev pub invariant-loop-round : goal.invariant-loop-round
-invariant-loop-round l = Lifting l.sheet l.reports (length l.initial.prices) l.pairing l.owner l.prices l.discounts l.slack × (SearchLists l.reports l.labels l.via l.closings × (l.round ≤ length l.initial.prices))
-
-abbrev pub decreases-loop-round : goal.decreases-loop-round
-decreases-loop-round l = length l.initial.prices - l.round
+abbrev pub invariant-loop : goal.invariant-loop
+invariant-loop l = (SamePairs l.initial.pairs l.pairs × SameTree l.initial.tree l.tree) × (Lifting l.sheet (length l.initial.pairs.prices.now) l.pairs l.slack × SearchLists l.sheet l.tree)
