@@ -24,12 +24,11 @@ pub struct MissedCounts {
     pub dropped: u32,
 }
 
-// A slot that is not due: a held track waits one call less.
-fn age_slot(mut slot: [u8; records::SLOT_BYTES]) -> [u8; records::SLOT_BYTES]
-    requires { slot_due slot ≡ false }
-    ensures { result ≡ aged_slot slot }
+// A slot that is due stays for its service; in any other a held track waits one call less.
+fn rested_slot(mut slot: [u8; records::SLOT_BYTES]) -> [u8; records::SLOT_BYTES]
+    ensures { result ≡ rested_slot slot }
 {
-    if slot[records::MARK_AT] != records::HELD {
+    if records::slot_due(slot) || slot[records::MARK_AT] != records::HELD {
         return slot;
     }
     let aged = settling::aged(records::unpack(slot));
@@ -78,7 +77,7 @@ fn settled_slot(
     ensures { result ≡ settled_slot sector batch.now pairing.now slot rank }
 {
     if !records::slot_due(slot) {
-        return age_slot(slot);
+        return rested_slot(slot);
     }
     let number = pairing[rank];
     if number == matching::NONE {
@@ -89,25 +88,11 @@ fn settled_slot(
     paired_slot(slot, report, sector)
 }
 
-// A slot that is due stays for its service; any other ages.
-fn rested_slot(slot: [u8; records::SLOT_BYTES]) -> [u8; records::SLOT_BYTES]
-    ensures { result ≡ rested_slot slot }
-{
-    if records::slot_due(slot) {
-        return slot;
-    }
-    age_slot(slot)
-}
-
 fn age_table(table: &mut [[u8; records::SLOT_BYTES]])
     ensures { table.new ≡ map rested_slot table.old }
 {
-    let mut k: usize = 0;
-    while k < table.len() {
-        let slot = table[k];
-        let rested = rested_slot(slot);
-        table[k] = rested;
-        k += 1;
+    for slot in table.iter_mut() {
+        *slot = rested_slot(*slot);
     }
 }
 
@@ -122,24 +107,8 @@ fn settle_due(
     requires { DueReady sector batch.now pairing.now due.now table.old }
     ensures { Placed [] due.now (λ rank. settled_slot sector batch.now pairing.now (get_or table.old (get_or due.now rank 0) []) rank) table.old table.new (length due.now) }
 {
-    let mut rank: usize = 0;
-    while rank < due.len() {
-        let k = due[rank];
-        let slot = table[k];
-        let settled = settled_slot(slot, rank, batch, pairing, sector);
-        table[k] = settled;
-        rank += 1;
-    }
-}
-
-// No slot has a price yet.
-fn clear_prices(prices: &mut [u32])
-    ensures { prices.new ≡ map no_price prices.old }
-{
-    let mut k: usize = 0;
-    while k < prices.len() {
-        prices[k] = 0;
-        k += 1;
+    for (rank, k) in due.iter().enumerate() {
+        table[*k] = settled_slot(table[*k], rank, batch, pairing, sector);
     }
 }
 
@@ -147,11 +116,8 @@ fn price_due(due: &[usize], track_prices: &[u32], prices: &mut [u32])
     requires { DuePriced due.now track_prices.now prices.old }
     ensures { Placed 0 due.now (at track_prices.now) prices.old prices.new (length due.now) }
 {
-    let mut rank: usize = 0;
-    while rank < due.len() {
-        let k = due[rank];
-        prices[k] = track_prices[rank];
-        rank += 1;
+    for (k, price) in due.iter().zip(track_prices) {
+        prices[*k] = *price;
     }
 }
 
@@ -160,7 +126,7 @@ fn price_slots(due: &[usize], track_prices: &[u32], prices: &mut [u32])
     requires { DuePriced due.now track_prices.now prices.old }
     ensures { Placed 0 due.now (at track_prices.now) (map no_price prices.old) prices.new (length due.now) }
 {
-    clear_prices(prices);
+    prices.fill(0);
     price_due(due, track_prices, prices);
 }
 
@@ -228,14 +194,10 @@ pub fn count_missed(
 {
     let mut coasted: u32 = 0;
     let mut dropped: u32 = 0;
-    let mut rank: usize = 0;
-    while rank < due.len() {
-        let k = due[rank];
-        let slot = table[k];
-        let one = missed_one(slot, pairing[rank], sector);
+    for (rank, k) in due.iter().enumerate() {
+        let one = missed_one(table[*k], pairing[rank], sector);
         coasted += one.coasted;
         dropped += one.dropped;
-        rank += 1;
     }
     MissedCounts { coasted, dropped }
 }

@@ -4,15 +4,14 @@ use Rattle.settling.proofs.HandedOn.{settleable}
 use Rattle.records.proofs.Checked.{sound}
 use native.Mathlib.Omega.{arith}
 use mathlib.Core.Path.{sym, ◌∙◌}
-use Rattle.walk.specs.Table.{settled_slot}
+use Rattle.walk.specs.Table.{rested_slot, settled_slot}
 use Rattle.walk.proofs.settled_slot.Goals as goal
 
-pub age_slot-requires : goal.age_slot-requires
-age_slot-requires c = sym c.slot_due.ensures ∙ c.if-not-slot_due.true
-
 pub returns-then-not-slot_due : goal.returns-then-not-slot_due
-unfolding settled_slot
-returns-then-not-slot_due c = rw (sym c.slot_due.ensures ∙ c.if-not-slot_due.true) c.age_slot.ensures
+unfolding settled_slot rested_slot
+returns-then-not-slot_due c =
+    let d = sym c.slot_due.ensures ∙ c.if-not-slot_due.true in
+    rw d (rw d at c.rested_slot.ensures)
 
 pub offset_bounds-pairing-rank : goal.offset_bounds-pairing-rank
 offset_bounds-pairing-rank c = omega (arith, c.requires.ranked (sym c.slot_due.ensures ∙ c.if-not-slot_due.false))
