@@ -1,27 +1,40 @@
+use mathlib.Core.Path.{◌≡◌, sym, ◌∙◌}
+use mathlib.Core.Bool.{true, false}
 use native.Mathlib.Omega.{arith}
-use Rattle.fates.proofs.Telling.{untracked, tracked}
+use borrow.Author.Tests.{ltb-true, ltb-false, lt-leb, le-leb}
+use lib.Dec.{leb}
+use lib.ListN.{length}
 use Rattle.settling.specs.Settle.{started_of}
+use Rattle.fates.specs.Fates.{fate_number, free_slot, told_unpaired, after_unpaired}
+use Rattle.fates.proofs.Telling.{found_within, not_within, position_free}
 use Rattle.fates.proofs.tell_unpaired.Goals as goal
 
-pub returns-then-fate-ne-STARTED : goal.returns-then-fate-ne-STARTED
-returns-then-fate-ne-STARTED c =
-    let u = untracked c.args.p c.args.sector c.args.table.now c.is_weak-weak.ensures c.requires.2 c.first_fate-fate.ensures c.if-fate-ne-STARTED.true in
-    record { told = u.told; table_after = u.after }
+pub returns-then-weak : goal.returns-then-weak
+unfolding told_unpaired after_unpaired fate_number
+returns-then-weak c =
+    let weak = sym c.is_weak-weak.ensures ∙ c.if-weak.true in
+    record { told = rw (weak, c.no_track.ensures); table_after = rw weak }
 
 pub pack-requires : goal.pack-requires
 unfolding started_of
 pack-requires c = rw c.started.ensures (omega arith)
 
-pub offset_bounds-table-free : goal.offset_bounds-table-free
-offset_bounds-table-free c = omega (arith, c.requires.0, (tracked c.args.p c.args.sector c.args.table.now c.is_weak-weak.ensures c.requires.2 c.first_fate-fate.ensures c.if-fate-ne-STARTED.false).room)
+pub bounds-table-k : goal.bounds-table-k
+bounds-table-k c =
+    let there = found_within (length c.args.table.now) (free_slot c.args.table.now) (sym c.in-Some.is ∙ c.requires.2 ∙ position_free c.args.table.now) in
+    omega (arith, there.0, ltb-true _ _ there.1)
 
-pub bounds-table-free : goal.bounds-table-free
-bounds-table-free c = (tracked c.args.p c.args.sector _ c.is_weak-weak.ensures c.requires.2 c.first_fate-fate.ensures c.if-fate-ne-STARTED.false).room
+pub returns-in-Some : goal.returns-in-Some
+unfolding told_unpaired after_unpaired fate_number
+returns-in-Some c =
+    let weak = sym c.is_weak-weak.ensures ∙ c.if-weak.false in
+    let there = found_within (length c.args.table.now) (free_slot c.args.table.now) (sym c.in-Some.is ∙ c.requires.2 ∙ position_free c.args.table.now) in
+    let full : leb (length c.args.table.now) (free_slot c.args.table.now) ≡ false = lt-leb _ _ (ltb-true _ _ there.1) in
+    record { told = rw (weak, full, there.0); table_after = rw (weak, full, there.0, c.pack.ensures, c.started.ensures) }
 
-pub overflow_cast-result : goal.overflow_cast-result
-overflow_cast-result c = omega (arith, c.requires.0, (tracked c.args.p c.args.sector c.args.table.now c.is_weak-weak.ensures c.requires.2 c.first_fate-fate.ensures c.if-fate-ne-STARTED.false).room)
-
-pub returns : goal.returns
-returns c =
-    let u = tracked _ _ _ c.is_weak-weak.ensures c.requires.2 c.first_fate-fate.ensures c.if-fate-ne-STARTED.false in
-    record { told = u.told; table_after = rw (c.pack.ensures, c.started.ensures) u.after }
+pub returns-in-None : goal.returns-in-None
+unfolding told_unpaired after_unpaired fate_number
+returns-in-None c =
+    let weak = sym c.is_weak-weak.ensures ∙ c.if-weak.false in
+    let full : leb (length c.args.table.now) (free_slot c.args.table.now) ≡ true = le-leb _ _ (ltb-false _ _ (not_within (length c.args.table.now) (free_slot c.args.table.now) (sym c.in-None.is ∙ c.requires.2 ∙ position_free c.args.table.now))) in
+    record { told = rw (weak, full, c.no_track-in-None.ensures); table_after = rw (weak, full) }
