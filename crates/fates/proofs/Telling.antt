@@ -1,6 +1,6 @@
 -- What is told of one report, by its fate.
-use Prim.Native.Nat.{ℕ, ◌+◌, ◌≤◌}
-use mathlib.Core.Path.{◌≡◌, refl, sym, ap}
+use Prim.Native.Nat.{ℕ, ◌+◌, ◌≤◌, ◌<◌}
+use mathlib.Core.Path.{◌≡◌, refl, sym, ap, ◌∙◌}
 use mathlib.Core.Bool.{Bool, true, false, cond}
 use mathlib.Core.List.{List, [], ◌∷◌}
 use Rattle.std.proofs.Common.{Option, Some, None}
@@ -29,18 +29,18 @@ eqb_sym a b = go (eqb b a) refl
     go false e = ne_eqb _ _ (λ z. eqb-false b a e (sym z))
 
 -- an index that lies in a list so long, or none
-abbrev pub within : (long index : ℕ) → Option ℕ
+abbrev within : (long index : ℕ) → Option ℕ
 within long index = cond (ltb index long) (Some index) None
 
 -- an index that is there, and one that is not
-pub found_within : (long index : ℕ) {i : ℕ} → Some i ≡ within long index → (i ≡ index) × (ltb index long ≡ true)
+found_within : (long index : ℕ) {i : ℕ} → Some i ≡ within long index → (i ≡ index) × (ltb index long ≡ true)
 found_within long index {i} e = go (ltb index long) refl
   where
     go : (b : Bool) → ltb index long ≡ b → (i ≡ index) × (ltb index long ≡ true)
     go true q = let some : Some i ≡ Some index = rw q at e in (cc, q)
     go false q = let none : Some i ≡ None = rw q at e in absurd (cc)
 
-pub not_within : (long index : ℕ) → None ≡ within long index → ltb index long ≡ false
+not_within : (long index : ℕ) → None ≡ within long index → ltb index long ≡ false
 not_within long index e = go (ltb index long) refl
   where
     go : (b : Bool) → ltb index long ≡ b → ltb index long ≡ false
@@ -49,7 +49,7 @@ not_within long index e = go (ltb index long) refl
 
 -- std's words for the first place of a kind, and for how many there are
 module _ {A : Type 0} (p q : A → Bool) (same : (x : A) → p x ≡ q x) where
-  pub position_within : (xs : List A) → position p xs ≡ within (length xs) (first_index q xs)
+  position_within : (xs : List A) → position p xs ≡ within (length xs) (first_index q xs)
   unfolding first_index
   position_within xs =
       rw (sym (is_position_or_len (first_index q) p refl (λ x xs. rw (same x) (ap (λ n. cond (q x) 0 n) (omega arith))) xs))
@@ -63,13 +63,27 @@ module _ {A : Type 0} (p q : A → Bool) (same : (x : A) → p x ≡ q x) where
       go false xs = count_from q 1 0 xs
 
 -- the due track that has a report, and the lowest free slot
-pub position_owner : (P : List ℕ) (j : ℕ) → position (λ number. eqb number j) P ≡ within (length P) (owner_of P j)
+position_owner : (P : List ℕ) (j : ℕ) → position (λ number. eqb number j) P ≡ within (length P) (owner_of P j)
 unfolding owner_of
 position_owner P j = position_within _ (eqb j) (λ number. eqb_sym number j) P
 
-pub position_free : (table : List (List ℕ)) → position is_free table ≡ within (length table) (free_slot table)
+position_free : (table : List (List ℕ)) → position is_free table ≡ within (length table) (free_slot table)
 unfolding free_slot
 position_free table = position_within is_free is_free (λ slot. refl) table
+
+pub owner_found : (P : List ℕ) (j : ℕ) {rank : ℕ} → Some rank ≡ position (λ number. eqb number j) P → (rank ≡ owner_of P j) × (ltb (owner_of P j) (length P) ≡ true)
+owner_found P j e = found_within (length P) (owner_of P j) (e ∙ position_owner P j)
+
+pub no_owner : (P : List ℕ) (j : ℕ) → None ≡ position (λ number. eqb number j) P → ltb (owner_of P j) (length P) ≡ false
+no_owner P j e = not_within (length P) (owner_of P j) (e ∙ position_owner P j)
+
+pub free_found : (table : List (List ℕ)) {k : ℕ} → Some k ≡ position is_free table → (k ≡ free_slot table) × (k < length table)
+free_found table e =
+    let w = found_within (length table) (free_slot table) (e ∙ position_free table) in
+    (w.0, omega (arith, w.0, ltb-true _ _ w.1))
+
+pub none_free : (table : List (List ℕ)) → None ≡ position is_free table → length table ≤ free_slot table
+none_free table e = ltb-false _ _ (not_within (length table) (free_slot table) (e ∙ position_free table))
 
 -- slots that are known not to be free may be passed
 pub position_past : (table : List (List ℕ)) (from : ℕ) → from ≤ free_slot table → position is_free table ≡ option_map (λ k. from + k) (position is_free (drop from table))

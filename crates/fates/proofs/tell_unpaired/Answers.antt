@@ -1,12 +1,10 @@
-use mathlib.Core.Path.{◌≡◌, sym, ◌∙◌}
-use mathlib.Core.Bool.{true, false}
+use mathlib.Core.Path.{sym, ◌∙◌}
 use native.Mathlib.Omega.{arith}
-use borrow.Author.Tests.{ltb-true, ltb-false, lt-leb, le-leb}
-use lib.Dec.{leb}
+use borrow.Author.Tests.{lt-leb, le-leb}
 use lib.ListN.{length}
 use Rattle.settling.specs.Settle.{started_of}
 use Rattle.fates.specs.Fates.{fate_number, free_slot, told_unpaired, after_unpaired}
-use Rattle.fates.proofs.Telling.{found_within, not_within, position_free}
+use Rattle.fates.proofs.Telling.{free_found, none_free}
 use Rattle.fates.proofs.tell_unpaired.Goals as goal
 
 pub returns-then-weak : goal.returns-then-weak
@@ -20,21 +18,19 @@ unfolding started_of
 pack-requires c = rw c.started.ensures (omega arith)
 
 pub bounds-table-k : goal.bounds-table-k
-bounds-table-k c =
-    let there = found_within (length c.args.table.now) (free_slot c.args.table.now) (sym c.in-Some.is ∙ c.requires.2 ∙ position_free c.args.table.now) in
-    omega (arith, there.0, ltb-true _ _ there.1)
+bounds-table-k c = (free_found _ (sym c.in-Some.is ∙ c.requires.2)).1
 
 pub returns-in-Some : goal.returns-in-Some
 unfolding told_unpaired after_unpaired fate_number
 returns-in-Some c =
     let weak = sym c.is_weak-weak.ensures ∙ c.if-weak.false in
-    let there = found_within (length c.args.table.now) (free_slot c.args.table.now) (sym c.in-Some.is ∙ c.requires.2 ∙ position_free c.args.table.now) in
-    let full : leb (length c.args.table.now) (free_slot c.args.table.now) ≡ false = lt-leb _ _ (ltb-true _ _ there.1) in
-    record { told = rw (weak, full, there.0); table_after = rw (weak, full, there.0, c.pack.ensures, c.started.ensures) }
+    let there = free_found c.args.table.now (sym c.in-Some.is ∙ c.requires.2) in
+    let room = lt-leb (length c.args.table.now) (free_slot c.args.table.now) (rw there.0 at there.1) in
+    record { told = rw (weak, room, there.0); table_after = rw (weak, room, there.0, c.pack.ensures, c.started.ensures) }
 
 pub returns-in-None : goal.returns-in-None
 unfolding told_unpaired after_unpaired fate_number
 returns-in-None c =
     let weak = sym c.is_weak-weak.ensures ∙ c.if-weak.false in
-    let full : leb (length c.args.table.now) (free_slot c.args.table.now) ≡ true = le-leb _ _ (ltb-false _ _ (not_within (length c.args.table.now) (free_slot c.args.table.now) (sym c.in-None.is ∙ c.requires.2 ∙ position_free c.args.table.now))) in
+    let full = le-leb (length c.args.table.now) (free_slot c.args.table.now) (none_free c.args.table.now (sym c.in-None.is ∙ c.requires.2)) in
     record { told = rw (weak, full, c.no_track-in-None.ensures); table_after = rw (weak, full) }
