@@ -163,5 +163,8 @@ pub fn count_fate(fates: &[u8], fate: Fate) -> u32
     requires { length fates.now ≤ most_batch }
     ensures { result ≡ count_of (fate_number fate) fates.now }
 {
-    fates.iter().filter(|told| **told == fate as u8).count() as u32
+    fates
+        .iter()
+        .map(|told| u32::from(*told == fate as u8))
+        .sum()
 }

@@ -10,5 +10,5 @@ use Rattle.fates.proofs.count_fate.Goals as goal
 pub returns : goal.returns
 unfolding count_of fate_number
 returns c =
-    let counted : c.count.result ≡ count_by (λ told. eqb told (fate_number c.args.fate)) c.args.fates.now = search (rules, chains) in
+    let counted : c.sum.result ≡ count_by (λ told. eqb told (fate_number c.args.fate)) c.args.fates.now = search (rules, chains) in
     counted ∙ count_by_count _ _ (λ told. eqb_sym told (fate_number c.args.fate)) c.args.fates.now
