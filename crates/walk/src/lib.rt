@@ -1,7 +1,7 @@
 // The table after pairing: each slot settled or aged, with its price.
 #![tactic(auto)]
 
-ghost use Rattle.std.specs.Prelude.{◌≡◌, false, cond, [], ◌++◌, map, ◌≤◌, ◌<◌, eqb, length, get_or, drop};
+ghost use Rattle.std.specs.Prelude.{◌≡◌, cond, [], ◌++◌, map, ◌≤◌, ◌<◌, eqb, length, get_or, drop};
 ghost use Rattle.numbers.specs.Scales.{sectors};
 ghost use Rattle.records.specs.Fields.{WellFormed, Sound};
 ghost use Rattle.laws.specs.Lists.{at};
@@ -10,7 +10,7 @@ ghost use Rattle.settling.specs.Settle.{Settleable, without_pair};
 ghost use Rattle.matching.specs.Pairing.{none};
 ghost use Rattle.intake.specs.Refusals.{input, due_slots, Ready};
 ghost use Rattle.laws.specs.Places.{Placed};
-ghost use Rattle.walk.specs.Table.{aged_slot, missed_slot, paired_slot, rested_slot, settled_slot, no_price, settled_table, slot_prices};
+ghost use Rattle.walk.specs.Table.{missed_slot, paired_slot, rested_slot, settled_slot, no_price, settled_table, slot_prices};
 ghost use Rattle.walk.specs.Table.{coasted_one, dropped_one, coasted_count, dropped_count};
 ghost use Rattle.walk.specs.Ready.{TableReady, SlotReady, DueReady, DuePriced};
 
@@ -18,7 +18,7 @@ use records::Site;
 use settling::Missed;
 
 // How many of the missed tracks coast, and how many are dropped.
-#[derive(Clone, Copy)]
+#[derive(Clone, Copy, Debug, PartialEq, Eq)]
 pub struct MissedCounts {
     pub coasted: u32,
     pub dropped: u32,
@@ -83,9 +83,7 @@ fn settled_slot(
     if number == matching::NONE {
         return missed_slot(slot, sector);
     }
-    let j = number as usize;
-    let report = batch[j];
-    paired_slot(slot, report, sector)
+    paired_slot(slot, batch[number as usize], sector)
 }
 
 fn age_table(table: &mut [[u8; records::SLOT_BYTES]])
