@@ -17,7 +17,7 @@ use Rattle.records.specs.declared.Report.{Report}
 use Rattle.records.specs.Fields.{is_weak}
 use Rattle.records.specs.Bytes.{bytes_of, report_of, is_free}
 use Rattle.settling.specs.Settle.{started_of}
-use Rattle.fates.specs.Fates.{fate_number, slot_number, mark, free_slot, owner_of, told_unpaired, after_unpaired, told_of, after_report, Handed, Tellable}
+use Rattle.fates.specs.Fates.{fate_number, slot_number, mark, free_slot, owner_of, told_unpaired, after_unpaired, told_of, after_report, Handed}
 use Rattle.laws.proofs.Rounds.{passed_from, first_later, count_from}
 
 -- a test of equality either way round
@@ -124,16 +124,6 @@ report_free h P j table = go (ltb (owner_of P j) (length P))
     go : (b : Bool) → free_slot table ≤ free_slot (cond b table (after_unpaired (report_of (get_or h.batch j [])) h.sector table))
     go true = omega arith
     go false = unpaired_free (report_of (get_or h.batch j [])) h.sector table
-
--- what the code counts on depends on the table's length alone
-pub tellable_still : {h : Handed} {P : List ℕ} {was table : List (List ℕ)} → length table ≡ length was → Tellable h P was → Tellable h P table
-tellable_still {h} {P} {was} {table} e w = record {
-  few_slots = rw e w.few_slots;
-  few_reports = w.few_reports;
-  sector_in = w.sector_in;
-  number_each = w.number_each;
-  due_lies = λ rank l. rw e (w.due_lies rank l);
-}
 
 -- the three answers of a report
 abbrev pub fate_out : Handed → List ℕ → ℕ → List (List ℕ) → ℕ
