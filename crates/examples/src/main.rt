@@ -16,10 +16,6 @@ const SIGMA: u8 = 16;
 
 const UPDATES: u8 = 8;
 
-fn line(rt: &HostRuntime, name: &str, value: u64) -> io::Result<()> {
-    println!(rt; "{name}{value}")
-}
-
 fn signed_line(rt: &HostRuntime, name: &str, value: i64) -> io::Result<()> {
     println!(rt; "{name}{value}")
 }
@@ -30,24 +26,21 @@ fn azimuths(rt: &HostRuntime) -> io::Result<()> {
     signed_line(rt, "32767 - 0 = ", numbers::azimuth_difference(32_767, 0))
 }
 
-fn position_line(rt: &HostRuntime, name: &str, dr: u64, da: u64) -> io::Result<()>
+fn position_line(rt: &HostRuntime, dr: u64, da: u64) -> io::Result<()>
     requires { (dr ≤ range_most) × (da ≤ half_turn) }
 {
-    line(
-        rt,
-        name,
-        scoring::position_number(dr, da, SIGMA, SIGMA) as u64,
-    )
+    let number = scoring::position_number(dr, da, SIGMA, SIGMA);
+    println!(rt; "S ({dr},{da}) = {number}")
 }
 
 fn positions(rt: &HostRuntime) -> io::Result<()> {
-    position_line(rt, "S (0,0) = ", 0, 0)?;
-    position_line(rt, "S (1,0) = ", 1, 0)?;
-    position_line(rt, "S (2,0) = ", 2, 0)?;
-    position_line(rt, "S (48,64) = ", 48, 64)?;
-    position_line(rt, "S (2041,0) = ", 2_041, 0)?;
-    position_line(rt, "S (2042,0) = ", 2_042, 0)?;
-    position_line(rt, "S (2046,0) = ", 2_046, 0)
+    position_line(rt, 0, 0)?;
+    position_line(rt, 1, 0)?;
+    position_line(rt, 2, 0)?;
+    position_line(rt, 48, 64)?;
+    position_line(rt, 2_041, 0)?;
+    position_line(rt, 2_042, 0)?;
+    position_line(rt, 2_046, 0)
 }
 
 // A track of the best confidence and quality without misses. Reports lie at range 0 and azimuth 0: it is dr and da off them.
@@ -86,7 +79,7 @@ fn report(confidence: u8, quality: u8, azimuth_degrade: u8, high: u8, low: u8) -
 }
 
 // The score of a pair: 8 updates, no misses, trust 0. It is 0 for a pair that is not admissible.
-fn score(dr: u32, da: u16, speed: u32, high: u8, low: u8) -> u64
+fn score(dr: u32, da: u16, speed: u32, high: u8, low: u8) -> u32
     requires off_in_range { (dr ≤ range_most) × (speed ≤ range_speed_most) }
     requires doppler_in_range { (high < high_circle) × (low < low_circle) }
 {
@@ -101,55 +94,47 @@ fn score(dr: u32, da: u16, speed: u32, high: u8, low: u8) -> u64
         range_sigma: SIGMA,
         azimuth_sigma: SIGMA,
     };
-    u64::from(scoring::score(track(dr, da, speed, UPDATES), p, site).unwrap_or(0))
+    scoring::score(track(dr, da, speed, UPDATES), p, site).unwrap_or(0)
 }
 
 // The zone's digit: inner 3, outer 6, and 0 for a pair that is not admissible.
-fn zone_line(rt: &HostRuntime, name: &str, dr: u32) -> io::Result<()>
+fn zone_line(rt: &HostRuntime, dr: u32) -> io::Result<()>
     requires { dr ≤ range_most }
 {
-    line(
-        rt,
-        name,
-        score(dr, 0, 0, 0, 0) / (scoring::ZONE_WORTH as u64),
-    )
+    let zone = score(dr, 0, 0, 0, 0) / scoring::ZONE_WORTH;
+    println!(rt; "zone of ({dr},0) = {zone}")
 }
 
 fn zones(rt: &HostRuntime) -> io::Result<()> {
-    zone_line(rt, "zone of (64,0) = ", 64)?;
-    zone_line(rt, "zone of (65,0) = ", 65)?;
-    zone_line(rt, "zone of (128,0) = ", 128)?;
-    zone_line(rt, "zone of (129,0) = ", 129)?;
-    line(rt, "score of (48,64) = ", score(48, 64, 0, 0, 0))
+    zone_line(rt, 64)?;
+    zone_line(rt, 65)?;
+    zone_line(rt, 128)?;
+    zone_line(rt, 129)?;
+    let score = score(48, 64, 0, 0, 0);
+    println!(rt; "score of (48,64) = {score}")
 }
 
 // What range speed -300 expects.
 fn expected_line(rt: &HostRuntime, name: &str, circle: u8) -> io::Result<()>
     requires { 0 < circle }
 {
-    line(
-        rt,
-        name,
-        u64::from(numbers::remainder(-300, u32::from(circle))),
-    )
+    let expected = numbers::remainder(-300, u32::from(circle));
+    println!(rt; "speed -300, {name} = {expected}")
 }
 
 // The Doppler's digit: agree 0, else 1.
-fn doppler_line(rt: &HostRuntime, name: &str, high: u8) -> io::Result<()>
+fn doppler_line(rt: &HostRuntime, high: u8) -> io::Result<()>
     requires { high < high_circle }
 {
-    line(
-        rt,
-        name,
-        score(0, 0, 5, high, 5) / (scoring::DOPPLER_WORTH as u64) % 8,
-    )
+    let digit = score(0, 0, 5, high, 5) / scoring::DOPPLER_WORTH % 8;
+    println!(rt; "speed 5, low 5, high {high}: Doppler = {digit}")
 }
 
 fn dopplers(rt: &HostRuntime) -> io::Result<()> {
-    expected_line(rt, "speed -300, high = ", records::HIGH_CIRCLE)?;
-    expected_line(rt, "speed -300, low = ", records::LOW_CIRCLE)?;
-    doppler_line(rt, "speed 5, low 5, high 173: Doppler = ", 173)?;
-    doppler_line(rt, "speed 5, low 5, high 172: Doppler = ", 172)
+    expected_line(rt, "high", records::HIGH_CIRCLE)?;
+    expected_line(rt, "low", records::LOW_CIRCLE)?;
+    doppler_line(rt, 173)?;
+    doppler_line(rt, 172)
 }
 
 fn corrections(rt: &HostRuntime) -> io::Result<()> {
@@ -161,15 +146,11 @@ fn corrections(rt: &HostRuntime) -> io::Result<()> {
     )
 }
 
-fn price_line(rt: &HostRuntime, name: &str, price: u32) -> io::Result<()> {
-    line(rt, name, price as u64)
-}
-
 // The check's number: 0 where it finds no fault.
-fn fault_number(answer: Result<(), Fault>) -> u64 {
+fn fault_number(answer: Result<(), Fault>) -> u8 {
     match answer {
         Ok(()) => 0,
-        Err(fault) => fault as u64,
+        Err(fault) => fault as u8,
     }
 }
 
@@ -179,79 +160,84 @@ fn pairings(rt: &HostRuntime) -> io::Result<()> {
     let crossed = [1, 0];
     let prices = [20, 22];
     let discounts = [10, 0];
-    line(
-        rt,
-        "scores 10 20, 12 none; total 32; prices 20 22; discounts 10 0: check = ",
-        fault_number(matching::check_pairing(2, 2, &sheet, &crossed, &prices, &discounts)),
-    )?;
+    let check = fault_number(matching::check_pairing(
+        2, 2, &sheet, &crossed, &prices, &discounts,
+    ));
+    println!(rt; "scores 10 20, 12 none; total 32; prices 20 22; discounts 10 0: check = {check}")?;
     let mut left_out = [0];
-    let mut price = [0];
-    let mut no_discounts = [];
-    let _ = engine::pair_sheet(1, 0, &[], &mut left_out, &mut price, &mut no_discounts);
-    price_line(rt, "one track, no report: price = ", price[0])?;
-    line(
-        rt,
-        "one track, no report: check = ",
-        fault_number(matching::check_pairing(1, 0, &[], &left_out, &price, &[])),
-    )
+    let mut prices = [0];
+    let _ = engine::pair_sheet(1, 0, &[], &mut left_out, &mut prices, &mut []);
+    let price = prices[0];
+    println!(rt; "one track, no report: price = {price}")?;
+    let check = fault_number(matching::check_pairing(1, 0, &[], &left_out, &prices, &[]));
+    println!(rt; "one track, no report: check = {check}")
 }
 
 // j of a track that is served in sector 0.
-fn wait_line(rt: &HostRuntime, name: &str, predicted: u8) -> io::Result<()>
+fn wait_line(rt: &HostRuntime, predicted: u8) -> io::Result<()>
     requires { predicted < sectors }
 {
-    line(rt, name, numbers::calls_ahead(0, predicted) as u64)
+    let ahead = numbers::calls_ahead(0, predicted);
+    println!(rt; "sector 0 to {predicted}: j = {ahead}")
 }
 
 fn waits(rt: &HostRuntime) -> io::Result<()> {
-    wait_line(rt, "sector 0 to 15: j = ", 15)?;
-    wait_line(rt, "sector 0 to 16: j = ", 16)?;
-    wait_line(rt, "sector 0 to 31: j = ", 31)?;
-    wait_line(rt, "sector 0 to 0: j = ", 0)
+    wait_line(rt, 15)?;
+    wait_line(rt, 16)?;
+    wait_line(rt, 31)?;
+    wait_line(rt, 0)
 }
 
-fn gain(of: Gains, updates: u8, confidence: u8, quality: u8, azimuth_degrade: u8) -> u64
+fn gain(of: Gains, updates: u8, confidence: u8, quality: u8, azimuth_degrade: u8) -> u32
     requires { (confidence ≤ confidence_most) × ((quality ≤ quality_most) × (azimuth_degrade ≤ 1)) }
 {
     let t = track(0, 0, 0, updates);
     let p = report(confidence, quality, azimuth_degrade, 0, 0);
-    u64::from(of.of(t, p))
+    of.of(t, p)
 }
 
+// A quality's gains, confidence by confidence.
 fn gain_row(rt: &HostRuntime, name: &str, of: Gains, quality: u8) -> io::Result<()>
     requires { quality ≤ quality_most }
 {
-    print!(rt; "{name}")?;
-    let mut confidence: u8 = 0;
-    while confidence <= records::CONFIDENCE_MOST {
+    print!(rt; "{name}, quality {quality} =")?;
+    for confidence in 0..=records::CONFIDENCE_MOST {
         let tenths = gain(of, UPDATES, confidence, quality, 0);
         print!(rt; " {tenths}")?;
-        confidence += 1;
     }
     println!(rt)
 }
 
+fn gain_rows(rt: &HostRuntime, name: &str, of: Gains) -> io::Result<()> {
+    for quality in 0..=records::QUALITY_MOST {
+        gain_row(rt, name, of, quality)?;
+    }
+    Ok(())
+}
+
+fn degraded_line(rt: &HostRuntime, name: &str, of: Gains) -> io::Result<()> {
+    let tenths = gain(
+        of,
+        UPDATES,
+        records::CONFIDENCE_MOST,
+        records::QUALITY_MOST,
+        1,
+    );
+    println!(rt; "{name}, azimuth-degrade 1 = {tenths}")
+}
+
+fn young_line(rt: &HostRuntime, name: &str, of: Gains) -> io::Result<()> {
+    let tenths = gain(of, 1, 0, 0, 1);
+    println!(rt; "{name}, updates 1 = {tenths}")
+}
+
 fn gains(rt: &HostRuntime) -> io::Result<()> {
-    gain_row(rt, "a, quality 0 =", settling::GAINS_A, 0)?;
-    gain_row(rt, "a, quality 1 =", settling::GAINS_A, 1)?;
-    gain_row(rt, "a, quality 2 =", settling::GAINS_A, 2)?;
-    gain_row(rt, "a, quality 3 =", settling::GAINS_A, 3)?;
-    gain_row(rt, "b, quality 0 =", settling::GAINS_B, 0)?;
-    gain_row(rt, "b, quality 1 =", settling::GAINS_B, 1)?;
-    gain_row(rt, "b, quality 2 =", settling::GAINS_B, 2)?;
-    gain_row(rt, "b, quality 3 =", settling::GAINS_B, 3)?;
-    line(
-        rt,
-        "a, azimuth-degrade 1 = ",
-        gain(settling::GAINS_A, UPDATES, 7, 3, 1),
-    )?;
-    line(
-        rt,
-        "b, azimuth-degrade 1 = ",
-        gain(settling::GAINS_B, UPDATES, 7, 3, 1),
-    )?;
-    line(rt, "a, updates 1 = ", gain(settling::GAINS_A, 1, 0, 0, 1))?;
-    line(rt, "b, updates 1 = ", gain(settling::GAINS_B, 1, 0, 0, 1))
+    gain_rows(rt, "a", settling::GAINS_A)?;
+    gain_rows(rt, "b", settling::GAINS_B)?;
+    degraded_line(rt, "a", settling::GAINS_A)?;
+    degraded_line(rt, "b", settling::GAINS_B)?;
+    young_line(rt, "a", settling::GAINS_A)?;
+    young_line(rt, "b", settling::GAINS_B)
 }
 
 fn main(rt: HostRuntime) -> io::Result<()> {

@@ -7,9 +7,8 @@ use native.Mathlib.Nat.{le_of_suc-le-suc, not-suc-le-zero}
 use native.Mathlib.Omega.{arith}
 use borrow.Author.Tests.{le-leb, lt-leb}
 use lib.ListN.{length, get_or, take, drop}
-use Rattle.laws.proofs.Sums.{row_in}
 use Rattle.matching.specs.Pairing.{none}
-use Rattle.glider.specs.Nearest.{score_in, nearer_of, row_at, Filterable}
+use Rattle.glider.specs.Nearest.{score_in, nearer_of, row_at}
 
 -- below a list's end the default does not matter
 module _ {A : Type 0} where
@@ -47,6 +46,3 @@ module _ (m i : ℕ) (cells : List ℕ) where
 
   pub part_is_row : take (i * m + m - i * m) (drop (i * m) cells) ≡ row_at m cells i
   part_is_row = ap (λ (k : ℕ). take k (drop (i * m) cells)) width
-
-pub row_room : {m n i : ℕ} {cells : List ℕ} {taken : List Bool} → Filterable m cells taken n → i < n → i * m + m ≤ length cells
-row_room {m} {n} {i} {cells} f h = row_in i n m (length cells) h f.cells_long

@@ -25,17 +25,15 @@ const SECTOR: u8 = 3;
 
 const CONFIDENCE: u8 = 5;
 
-const RIDGE: u32 = 0;
-
-const GLIDER: u32 = 1;
+// What the returns of the scene are called, in their order.
+const RETURNS: [&str; REPORTS] = ["the ridge's return", "the glider's return"];
 
 // ---- the old filter
 
 fn score_in(row: &[u32], report: u32) -> u32
     ensures { result ≡ score_in row.now report }
 {
-    let j = index(report);
-    if j < row.len() { row[j] } else { NONE }
+    row.get(index(report)).copied().unwrap_or(NONE)
 }
 
 // Report j in the place of the nearest so far, if it is free and its score is lower.
@@ -43,10 +41,7 @@ fn nearer(row: &[u32], taken: &[bool], j: usize, nearest: u32) -> u32
     requires { (j < length row.now) × ((length row.now ≤ most_reports) × (length taken.now ≡ length row.now)) }
     ensures { result ≡ nearer_of row.now taken.now j nearest }
 {
-    if taken[j] {
-        return nearest;
-    }
-    if score_in(row, nearest) <= row[j] {
+    if taken[j] || score_in(row, nearest) <= row[j] {
         return nearest;
     }
     j as u32
@@ -58,10 +53,8 @@ fn nearest_free(row: &[u32], taken: &[bool]) -> u32
     ensures { result ≡ nearest_of row.now taken.now }
 {
     let mut nearest = NONE;
-    let mut j: usize = 0;
-    while j < row.len() {
+    for j in 0..row.len() {
         nearest = nearer(row, taken, j, nearest);
-        j += 1;
     }
     nearest
 }
@@ -80,14 +73,10 @@ fn nearest_first(sheet: &[u32], reports: usize, taken: &mut [bool], pairing: &mu
     requires { Filterable reports sheet.now taken.old (length pairing.old) }
     ensures { pairing.new ≡ nearest_first (length pairing.old) reports sheet.now taken.old }
 {
-    let mut track: usize = 0;
-    while track < pairing.len() {
+    for (track, report) in pairing.iter_mut().enumerate() {
         let from = track * reports;
-        let to = from + reports;
-        let report = nearest_free(&sheet[from..to], taken);
-        pairing[track] = report;
-        take_report(taken, report);
-        track += 1;
+        *report = nearest_free(&sheet[from..from + reports], taken);
+        take_report(taken, *report);
     }
 }
 
@@ -225,37 +214,20 @@ fn marks() -> [u8; REPORTS]
     shown
 }
 
-fn write(rt: &HostRuntime, text: &str) -> io::Result<()> {
-    print!(rt; "{text}")
-}
-
-fn write_return(rt: &HostRuntime, report: u32) -> io::Result<()> {
-    match report {
-        RIDGE => write(rt, "the ridge's return"),
-        GLIDER => write(rt, "the glider's return"),
-        _ => write(rt, "nothing"),
-    }
+fn name_of(report: u32) -> &'static str {
+    RETURNS.get(index(report)).copied().unwrap_or("nothing")
 }
 
 fn tell(rt: &HostRuntime, who: &str, pairing: [u32; TRACKS]) -> io::Result<()> {
-    write(rt, who)?;
-    write(rt, ": the ridge's track takes ")?;
-    write_return(rt, pairing[0])?;
-    write(rt, ", the glider's track takes ")?;
-    write_return(rt, pairing[1])?;
-    write(rt, "\n")
-}
-
-fn tell_shown(rt: &HostRuntime, mark: u8) -> io::Result<()> {
-    if mark == 0 {
-        return write(rt, "the glider is not shown\n");
-    }
-    write(rt, "the glider is shown\n")
+    let ridge = name_of(pairing[0]);
+    let glider = name_of(pairing[1]);
+    println!(rt; "{who}: the ridge's track takes {ridge}, the glider's track takes {glider}")
 }
 
 fn main(rt: HostRuntime) -> io::Result<()> {
     tell(&rt, "old filter", old_filter())?;
     tell(&rt, "ours", ours())?;
-    let shown = marks();
-    tell_shown(&rt, shown[1])
+    let mark = marks()[1];
+    let shown = if mark == 0 { "not shown" } else { "shown" };
+    println!(rt; "the glider is {shown}")
 }

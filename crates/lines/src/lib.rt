@@ -17,14 +17,9 @@ pub fn put_text(out: &mut [u8], place: usize, text: &[u8]) -> usize
     requires { place + length text.now ≤ length out.old }
     ensures { Put out.old place text.now out.new result }
 {
-    let mut at = place;
-    let mut i: usize = 0;
-    while i < text.len() {
-        out[at] = text[i];
-        at += 1;
-        i += 1;
-    }
-    at
+    let behind = place + text.len();
+    out[place..behind].copy_from_slice(text);
+    behind
 }
 
 fn put_number(out: &mut [u8], place: usize, n: u32) -> usize
@@ -32,7 +27,7 @@ fn put_number(out: &mut [u8], place: usize, n: u32) -> usize
     ensures { Put out.old place (numeral n) out.new result }
 {
     let mut digits = [0u8; SPELL_ROOM];
-    let k = io::decimal(n as u64, &mut digits);
+    let k = io::decimal(u64::from(n), &mut digits);
     put_text(out, place, &digits[..k])
 }
 
@@ -51,11 +46,9 @@ pub fn put_line(out: &mut [u8], place: usize, numbers: &[u32]) -> usize
     ensures in_room { result ≤ place + length numbers.now * most_number }
 {
     let mut at = place;
-    let mut i: usize = 0;
-    while i < numbers.len() {
-        at = put_number(out, at, numbers[i]);
-        i += 1;
-        out[at] = separator(numbers.len() - i);
+    for (i, n) in numbers.iter().enumerate() {
+        at = put_number(out, at, *n);
+        out[at] = separator(numbers.len() - (i + 1));
         at += 1;
     }
     at

@@ -14,8 +14,41 @@ const CELLS: usize = MOST_TRACKS * MOST_REPORTS;
 
 const NUMBERS: u64 = 2147483648;
 
-// What a family came to.
+// The rule by which a family's cells are made.
 #[derive(Clone, Copy)]
+enum Family {
+    // Scores of 0 to 2.
+    Ties,
+    // Every other row has nothing.
+    Gaps,
+    // One pair in eight is admissible.
+    Sparse,
+    // The product of the row's number and the column's.
+    Products,
+    // Any scores.
+    Full,
+}
+
+const FAMILIES: [(&str, Family); 5] = [
+    ("ties and zeros", Family::Ties),
+    ("rows with nothing", Family::Gaps),
+    ("one in eight", Family::Sparse),
+    ("products", Family::Products),
+    ("all admissible", Family::Full),
+];
+
+// A sheet of a family: its size, and the number that its cells start from.
+#[derive(Clone, Copy)]
+struct Case {
+    family: Family,
+    tracks: usize,
+    reports: usize,
+    seed: u64,
+    ghost few: { (tracks ≤ most_tracks) × (reports ≤ most_reports) },
+}
+
+// What sheets came to.
+#[derive(Clone, Copy, Default)]
 struct Tally {
     sheets: u64,
     accepted: u64,
@@ -24,29 +57,23 @@ struct Tally {
     scores: u64,
 }
 
+impl Tally {
+    fn plus(self, other: Tally) -> Tally {
+        Tally {
+            sheets: self.sheets.wrapping_add(other.sheets),
+            accepted: self.accepted.wrapping_add(other.accepted),
+            agreed: self.agreed.wrapping_add(other.agreed),
+            pairs: self.pairs.wrapping_add(other.pairs),
+            scores: self.scores.wrapping_add(other.scores),
+        }
+    }
+}
+
 // One pairing: its pairs, and the sum of their scores.
-#[derive(Clone, Copy)]
+#[derive(Clone, Copy, Default)]
 struct Pairs {
     pairs: u64,
     scores: u64,
-}
-
-fn room() -> [u32; CELLS]
-    ensures { most_tracks * most_reports ≡ length result }
-{
-    [0; CELLS]
-}
-
-fn track_list() -> [u32; MOST_TRACKS]
-    ensures { most_tracks ≡ length result }
-{
-    [0; MOST_TRACKS]
-}
-
-fn report_list() -> [u32; MOST_REPORTS]
-    ensures { most_reports ≡ length result }
-{
-    [0; MOST_REPORTS]
 }
 
 // The next number of a fixed sequence.
@@ -54,269 +81,162 @@ fn next(x: u64) -> u64 {
     (x % NUMBERS * 1103515245 + 12345) % NUMBERS
 }
 
-// Every other row has nothing.
-fn every_other(row: usize, score: u32) -> u32 {
-    if row % 2 == 0 { NONE } else { score }
-}
-
-// One pair in eight is admissible.
-fn one_in_eight(x: u64, score: u32) -> u32 {
-    if x / 1048576 % 8 == 0 { score } else { NONE }
-}
-
-fn cell_of(family: u32, row: usize, column: usize, x: u64) -> u32 {
-    let score = (x / 64 % (SCORE_END as u64)) as u32;
+fn cell_of(family: Family, row: usize, column: usize, x: u64) -> u32 {
+    let score = (x / 64 % u64::from(SCORE_END)) as u32;
     match family {
-        0 => score % 3,
-        1 => every_other(row, score),
-        2 => one_in_eight(x, score),
-        3 => ((row % MOST_TRACKS + 1) * (column % MOST_REPORTS + 1)) as u32,
+        Family::Ties => score % 3,
+        Family::Gaps if row % 2 == 0 => NONE,
+        Family::Sparse if x / 1048576 % 8 != 0 => NONE,
+        Family::Products => ((row % MOST_TRACKS + 1) * (column % MOST_REPORTS + 1)) as u32,
         _ => score,
     }
 }
 
-fn width(reports: usize) -> usize
-    ensures { 1 ≤ result }
-{
-    if reports == 0 { 1 } else { reports }
-}
-
-fn fill_sheet(family: u32, reports: usize, seed: u64, sheet: &mut [u32]) {
-    let w = width(reports);
-    let mut x = seed;
-    let mut k: usize = 0;
-    while k < sheet.len() {
+fn fill_sheet(case: Case, cells: &mut [u32]) {
+    let width = case.reports.max(1);
+    let mut x = case.seed;
+    for (k, cell) in cells.iter_mut().enumerate() {
         x = next(x);
-        sheet[k] = cell_of(family, k / w, k % w, x);
-        k += 1;
+        *cell = cell_of(case.family, k / width, k % width, x);
     }
 }
 
-fn least(a: u64, b: u64) -> u64
-    ensures { (result ≤ a) × (result ≤ b) }
+// The least total of all pairings of the tracks from i on, where track i takes a report from j on, or is left out. The bits of taken
+// are the reports that are taken.
+fn least_total(cells: &[u32], case: Case, i: usize, j: usize, taken: u128) -> u64
+    requires { (case.tracks * case.reports ≤ length cells.now) × ((i ≤ case.tracks) × (j ≤ case.reports)) }
+    ensures { result ≤ (case.tracks - i) * 2 ^ 32 }
 {
-    if a < b { a } else { b }
-}
-
-// The bit of a report among those that are taken.
-fn bit(j: usize) -> u32 {
-    match j {
-        0 => 1,
-        1 => 2,
-        2 => 4,
-        3 => 8,
-        _ => 16,
-    }
-}
-
-// The pair is not admissible, or the report is taken.
-fn barred(cell: u32, taken: u32, j: usize) -> bool {
-    if cell == NONE {
-        return true;
-    }
-    taken & bit(j) != 0
-}
-
-// The least total of all pairings of the tracks from i on, where track i takes a report from j on, or is left out.
-fn least_total(sheet: &[u32], tracks: usize, reports: usize, i: usize, j: usize, taken: u32) -> u64
-    requires { (tracks ≤ most_tracks) × ((reports ≤ most_reports) × ((tracks * reports ≤ length sheet.now) × ((i ≤ tracks) × (j ≤ reports)))) }
-    ensures { result ≤ (tracks - i) * 2 ^ 32 }
-{
-    if i >= tracks {
+    if i >= case.tracks {
         return 0;
     }
-    if j >= reports {
-        return u64::from(LEFT_OUT) + least_total(sheet, tracks, reports, i + 1, 0, taken);
+    if j >= case.reports {
+        return u64::from(LEFT_OUT) + least_total(cells, case, i + 1, 0, taken);
     }
-    let without = least_total(sheet, tracks, reports, i, j + 1, taken);
-    let cell = sheet[i * reports + j];
-    if barred(cell, taken, j) {
+    let without = least_total(cells, case, i, j + 1, taken);
+    let cell = cells[i * case.reports + j];
+    let bit = 1u128 << j;
+    if cell == NONE || taken & bit != 0 {
         return without;
     }
-    least(
-        without,
-        u64::from(cell) + least_total(sheet, tracks, reports, i + 1, 0, taken | bit(j)),
-    )
-}
-
-// The score of a track's pair, and 0 for a report that is not there.
-fn score_at(sheet: &[u32], at: usize) -> u64 {
-    if at < sheet.len() {
-        u64::from(sheet[at])
-    } else {
-        0
-    }
+    without.min(u64::from(cell) + least_total(cells, case, i + 1, 0, taken | bit))
 }
 
 // One track more: its pair, if it has one.
-fn with_track(sheet: &[u32], reports: usize, track: usize, report: usize, before: Pairs) -> Pairs
-    requires { (track ≤ most_tracks) × (reports ≤ most_reports) }
+fn with_track(cells: &[u32], case: Case, track: usize, report: usize, before: Pairs) -> Pairs
+    requires { track ≤ most_tracks }
 {
-    if report >= reports {
+    if report >= case.reports {
         return before;
     }
+    let score = cells
+        .get(track * case.reports + report)
+        .map_or(0, |s| u64::from(*s));
     Pairs {
-        pairs: std::num::wrapping_add_u64(before.pairs, 1),
-        scores: std::num::wrapping_add_u64(
-            before.scores,
-            score_at(sheet, track * reports + report),
-        ),
+        pairs: before.pairs.wrapping_add(1),
+        scores: before.scores.wrapping_add(score),
     }
 }
 
-fn outcome(sheet: &[u32], reports: usize, pairing: &[u32]) -> Pairs
-    requires { (length pairing.now ≤ most_tracks) × (reports ≤ most_reports) }
+fn outcome(cells: &[u32], case: Case, pairing: &[u32]) -> Pairs
+    requires { length pairing.now ≤ most_tracks }
 {
-    let mut found = Pairs {
-        pairs: 0,
-        scores: 0,
-    };
-    let mut track: usize = 0;
-    while track < pairing.len() {
-        found = with_track(sheet, reports, track, index(pairing[track]), found);
-        track += 1;
+    let mut found = Pairs::default();
+    for (track, report) in pairing.iter().enumerate() {
+        found = with_track(cells, case, track, index(*report), found);
     }
     found
 }
 
-fn one_if(yes: bool) -> u64 {
-    if yes { 1 } else { 0 }
+// Whether a pairing is as good as the best of all.
+fn as_good(cells: &[u32], case: Case, found: Pairs) -> bool
+    requires { case.tracks * case.reports ≤ length cells.now }
+{
+    let left = (case.tracks as u64).wrapping_sub(found.pairs) % 128;
+    left * u64::from(LEFT_OUT) + found.scores % NUMBERS == least_total(cells, case, 0, 0, 0)
 }
 
-// One sheet more of a family: what the check says of its pairing. Small sheets are settled by a search of all pairings too.
-fn judge(
-    cells: &[u32],
-    tracks: usize,
-    reports: usize,
-    pairing: &[u32],
-    accepted: bool,
-    small: bool,
-    before: Tally,
-) -> Tally
-    requires { (tracks ≤ most_tracks) × ((reports ≤ most_reports) × ((most_tracks * most_reports ≤ length cells.now) × (most_tracks ≤ length pairing.now))) }
-{
-    let found = outcome(cells, reports, &pairing[..tracks]);
-    let pairs = found.pairs;
-    let scores = found.scores;
-    let left = std::num::wrapping_sub_u64(tracks as u64, pairs) % 128;
-    let mut agreed: u64 = 0;
-    if small {
-        let total = least_total(cells, tracks, reports, 0, 0, 0);
-        agreed = one_if(left * (LEFT_OUT as u64) + scores % NUMBERS == total);
-    }
-    Tally {
-        sheets: std::num::wrapping_add_u64(before.sheets, 1),
-        accepted: std::num::wrapping_add_u64(before.accepted, one_if(accepted)),
-        agreed: std::num::wrapping_add_u64(before.agreed, agreed),
-        pairs: std::num::wrapping_add_u64(before.pairs, pairs),
-        scores: std::num::wrapping_add_u64(before.scores, scores),
-    }
-}
-
-// The sheet is made, paired and checked in the lists that are lent.
-fn settle(
-    family: u32,
-    tracks: usize,
-    reports: usize,
-    seed: u64,
-    small: bool,
-    before: Tally,
-    cells: &mut [u32],
-    pairing: &mut [u32],
-    prices: &mut [u32],
-    discounts: &mut [u32],
-) -> Tally
-    requires { (tracks ≤ most_tracks) × ((reports ≤ most_reports) × ((most_tracks * most_reports ≤ length cells.old) × (most_tracks ≤ length pairing.old))) }
-{
-    fill_sheet(family, reports, seed, cells);
-    let _ = engine::pair_sheet(tracks, reports, cells, pairing, prices, discounts);
-    let verdict = matching::check_pairing(tracks, reports, cells, pairing, prices, discounts);
-    judge(
-        cells,
-        tracks,
-        reports,
-        pairing,
-        verdict.is_ok(),
-        small,
-        before,
-    )
-}
-
-fn run(family: u32, tracks: usize, reports: usize, seed: u64, small: bool, before: Tally) -> Tally
-    requires { (tracks ≤ most_tracks) × (reports ≤ most_reports) }
-{
-    let mut cells = room();
-    let mut pairing = track_list();
-    let mut prices = track_list();
-    let mut discounts = report_list();
-    settle(
-        family,
-        tracks,
-        reports,
-        seed,
-        small,
-        before,
-        &mut cells,
+// The sheet is made, paired and checked. Small sheets are settled by a search of all pairings too.
+fn run(case: Case, small: bool) -> Tally {
+    let mut cells = [0; CELLS];
+    let mut pairing = [0; MOST_TRACKS];
+    let mut prices = [0; MOST_TRACKS];
+    let mut discounts = [0; MOST_REPORTS];
+    fill_sheet(case, &mut cells);
+    let _ = engine::pair_sheet(
+        case.tracks,
+        case.reports,
+        &cells,
         &mut pairing,
         &mut prices,
         &mut discounts,
-    )
-}
-
-fn nothing() -> Tally {
+    );
+    let verdict = matching::check_pairing(
+        case.tracks,
+        case.reports,
+        &cells,
+        &pairing,
+        &prices,
+        &discounts,
+    );
+    let found = outcome(&cells, case, &pairing[..case.tracks]);
     Tally {
-        sheets: 0,
-        accepted: 0,
-        agreed: 0,
-        pairs: 0,
-        scores: 0,
+        sheets: 1,
+        accepted: u64::from(verdict.is_ok()),
+        agreed: u64::from(small && as_good(&cells, case, found)),
+        pairs: found.pairs,
+        scores: found.scores,
     }
 }
 
 // Every size up to 5 tracks by 5 reports, twice.
-fn small_sheets(family: u32) -> Tally {
-    let mut tally = nothing();
-    let mut k: usize = 0;
-    while k < 72 {
-        tally = run(family, k % SIZES, k / SIZES % SIZES, k as u64, true, tally);
-        k += 1;
+fn small_sheets(family: Family) -> Tally {
+    let mut tally = Tally::default();
+    for k in 0..72usize {
+        let case = Case {
+            family,
+            tracks: k % SIZES,
+            reports: k / SIZES % SIZES,
+            seed: k as u64,
+        };
+        tally = tally.plus(run(case, true));
     }
     tally
 }
 
-fn wide_sheets(family: u32) -> Tally {
-    let mut tally = nothing();
-    let mut k: usize = 0;
-    while k < 3 {
-        tally = run(family, MOST_TRACKS, MOST_REPORTS, k as u64, false, tally);
-        k += 1;
+fn wide_sheets(family: Family) -> Tally {
+    let mut tally = Tally::default();
+    for seed in 0..3u64 {
+        let case = Case {
+            family,
+            tracks: MOST_TRACKS,
+            reports: MOST_REPORTS,
+            seed,
+        };
+        tally = tally.plus(run(case, false));
     }
     tally
 }
 
-fn number(rt: &HostRuntime, n: u64) -> io::Result<()> {
-    print!(rt; " {n}")
-}
-
-fn line(rt: &HostRuntime, name: &str, t: Tally) -> io::Result<()> {
-    print!(rt; "{name}")?;
-    number(rt, t.sheets)?;
-    number(rt, t.accepted)?;
-    number(rt, t.agreed)?;
-    number(rt, t.pairs)?;
-    number(rt, t.scores)?;
-    println!(rt)
+fn line(rt: &HostRuntime, t: Tally) -> io::Result<()> {
+    let Tally {
+        sheets,
+        accepted,
+        agreed,
+        pairs,
+        scores,
+    } = t;
+    println!(rt; " {sheets} {accepted} {agreed} {pairs} {scores}")
 }
 
 fn main(rt: HostRuntime) -> io::Result<()> {
-    line(&rt, "ties and zeros", small_sheets(0))?;
-    line(&rt, "rows with nothing", small_sheets(1))?;
-    line(&rt, "one in eight", small_sheets(2))?;
-    line(&rt, "products", small_sheets(3))?;
-    line(&rt, "all admissible", small_sheets(4))?;
-    line(&rt, "wide, ties and zeros", wide_sheets(0))?;
-    line(&rt, "wide, rows with nothing", wide_sheets(1))?;
-    line(&rt, "wide, one in eight", wide_sheets(2))?;
-    line(&rt, "wide, products", wide_sheets(3))?;
-    line(&rt, "wide, all admissible", wide_sheets(4))
+    for (name, family) in FAMILIES {
+        print!(rt; "{name}")?;
+        line(&rt, small_sheets(family))?;
+    }
+    for (name, family) in FAMILIES {
+        print!(rt; "wide, {name}")?;
+        line(&rt, wide_sheets(family))?;
+    }
+    Ok(())
 }

@@ -2,7 +2,7 @@ use Rattle.glider.specs.Nearest.{nearest_for, taken_after}
 use lib.ListN.{length}
 use mathlib.Core.Bool.{Bool}
 use mathlib.Core.Path.{◌≡◌}
-use Prim.Native.Nat.{ℕ, ◌-◌, ◌≤◌}
+use Prim.Native.Nat.{ℕ, ◌≤◌}
 use mathlib.Core.List.{List}
 use Rattle.laws.proofs.Fold.{Answered}
 use Rattle.laws.specs.Lists.{numbers}
@@ -15,6 +15,3 @@ pub record Inv (m : ℕ) (cells : List ℕ) (taken₀ taken : List Bool) (pairin
 
 abbrev pub invariant-loop-track : goal.invariant-loop-track
 invariant-loop-track l = Inv l.reports l.sheet l.initial.taken l.taken l.initial.pairing l.pairing l.track
-
-abbrev pub decreases-loop-track : goal.decreases-loop-track
-decreases-loop-track l = length l.initial.pairing - l.track

@@ -1,10 +1,6 @@
-use Rattle.laws.proofs.Fold.{stepped_none}
 use Rattle.laws.proofs.Rounds.{round_more, round_end}
 use Rattle.glider.specs.Nearest.{nearest_of}
 use Rattle.glider.proofs.nearest_free.Goals as goal
-
-pub loop-j-init : goal.loop-j-init
-loop-j-init c = stepped_none _ _ _
 
 pub loop-j-preserved : goal.loop-j-preserved
 loop-j-preserved c = round_more _ c.loop-j.invariant c.loop-j-test.true c.nearer-nearest.ensures

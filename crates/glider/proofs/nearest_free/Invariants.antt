@@ -1,4 +1,3 @@
-use Prim.Native.Nat.{◌-◌}
 use lib.ListN.{length}
 use Rattle.matching.specs.Pairing.{none}
 use Rattle.laws.proofs.Fold.{Stepped}
@@ -8,6 +7,3 @@ use Rattle.glider.proofs.nearest_free.Given as goal
 
 abbrev pub invariant-loop-j : goal.invariant-loop-j
 invariant-loop-j l = Stepped (nearer_of l.row l.taken) (numbers (length l.row)) none l.nearest l.j
-
-abbrev pub decreases-loop-j : goal.decreases-loop-j
-decreases-loop-j l = length l.row - l.j

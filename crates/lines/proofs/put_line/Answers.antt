@@ -1,29 +1,15 @@
 use Rattle.lines.proofs.Numerals.{line_short}
 use native.Mathlib.Omega.{arith}
-use Rattle.lines.proofs.Writing.{lining_none, lining_room, lining_more, lining_end}
+use Rattle.lines.proofs.Writing.{lining_room, lining_more, lining_end}
 use Rattle.lines.proofs.put_line.Goals as goal
-
-pub loop-i-init : goal.loop-i-init
-loop-i-init c = lining_none _ _ _ c.requires
-
-pub put_number-at-requires : goal.put_number-at-requires
-put_number-at-requires c = omega (arith, c.loop-i.invariant.room)
 
 pub bounds-out-at : goal.bounds-out-at
 bounds-out-at c =
     let r = lining_room _ c.loop-i.invariant c.loop-i-test.true c.put_number-at.ensures in
     omega (arith, r.0, r.1)
 
-pub overflow_add-at : goal.overflow_add-at
-overflow_add-at c =
-    let r = lining_room _ c.loop-i.invariant c.loop-i-test.true c.put_number-at.ensures in
-    omega (arith, r.0)
-
 pub loop-i-preserved : goal.loop-i-preserved
 loop-i-preserved c = lining_more c.loop-i.invariant c.loop-i-test.true c.put_number-at.ensures c.separator.ensures
-
-pub shape_of-out : goal.shape_of-out
-shape_of-out c = c.loop-i.invariant.so.same
 
 pub returns : goal.returns
 returns c =

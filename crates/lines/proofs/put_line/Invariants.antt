@@ -1,10 +1,5 @@
-use Prim.Native.Nat.{◌-◌}
-use lib.ListN.{length}
 use Rattle.lines.proofs.Writing.{Lining}
 use Rattle.lines.proofs.put_line.Given as goal
 
 abbrev pub invariant-loop-i : goal.invariant-loop-i
 invariant-loop-i l = Lining l.initial.out l.place l.numbers l.out l.at l.i
-
-abbrev pub decreases-loop-i : goal.decreases-loop-i
-decreases-loop-i l = length l.numbers - l.i

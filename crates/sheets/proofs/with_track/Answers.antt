@@ -1,9 +1,0 @@
-use Rattle.std.proofs.Common.{mul-le-mul, arith}
-use Rattle.matching.specs.Pairing.{most_tracks}
-use Rattle.sheets.proofs.with_track.Goals as goal
-
-pub overflow_mul-track : goal.overflow_mul-track
-overflow_mul-track c = omega (arith, mul-le-mul {n₂ = most_tracks} c.requires.0 c.requires.1)
-
-pub overflow_add-track : goal.overflow_add-track
-overflow_add-track c = omega (arith, mul-le-mul {n₂ = most_tracks} c.requires.0 c.requires.1, c.requires.1)
