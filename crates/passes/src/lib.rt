@@ -75,8 +75,8 @@ fn least(labels: &[u32], closings: &[u32], cap: u32) -> u32
     ensures { Low labels.now closings.now cap result }
 {
     let mut best = cap;
-    for (label, closing) in labels.iter().zip(closings) {
-        best = best.min(*label + *closing);
+    for (j, label) in labels.iter().enumerate() {
+        best = best.min(*label + closings[j]);
     }
     best
 }
@@ -87,8 +87,8 @@ fn first_at(labels: &[u32], closings: &[u32], label: u32) -> usize
     requires { Labels labels.now closings.now }
     ensures { Found labels.now closings.now label result }
 {
-    for (j, (here, closing)) in labels.iter().zip(closings).enumerate() {
-        if *here + *closing == label {
+    for (j, here) in labels.iter().enumerate() {
+        if *here + closings[j] == label {
             return j;
         }
     }
@@ -122,8 +122,8 @@ fn near_key(labels: &[u32], closings: &[u32]) -> u32
     ensures { Near labels.now closings.now result }
 {
     let mut best = LAST_KEY;
-    for (j, (label, closing)) in labels.iter().zip(closings).enumerate() {
-        best = best.min(near_of(*label + *closing, j as u32));
+    for (j, label) in labels.iter().enumerate() {
+        best = best.min(near_of(*label + closings[j], j as u32));
     }
     best
 }
