@@ -1,5 +1,6 @@
 // The engine's passes over a row of the sheet and over its lists. A loop body is one call of a by-value function and has no branch, so
-// that it goes by vectors. Lists have an entry a report; a label says how far a search has to go to reach that report.
+// that it goes by vectors; one index serves all its lists, since a zip tests the end of each, which is slower. Lists have an entry a
+// report; a label says how far a search has to go to reach that report.
 #![tactic(auto)]
 
 ghost use Rattle.std.specs.Prelude.{IfSome, MatchOption, ◌≡◌, ℕ, ◌+◌, ◌-◌, ◌*◌, ◌<◌, ◌≤◌, ◌^◌, length, ◌⊎◌};
@@ -186,8 +187,8 @@ pub fn raise_prices(pairing: &[u32], owner: &[u32], labels: &[u32], reach: u32, 
     requires { Paid pairing.now owner.now labels.now prices.old reach }
     ensures { PricesUp pairing.now labels.now reach prices.old prices.new }
 {
-    for (track, label) in owner.iter().zip(labels) {
-        raise_one(prices, *track, reach.saturating_sub(*label));
+    for (j, label) in labels.iter().enumerate() {
+        raise_one(prices, owner[j], reach.saturating_sub(*label));
     }
 }
 
@@ -256,8 +257,8 @@ fn first_free(cells: &[u32], owner: &[u32], score: u32) -> Option<usize>
     ensures { IfSome result (λ j. (j < length cells.now) × ((at cells.now j ≡ score) × (at owner.now j ≡ none))) }
 {
     let mut best = LAST_KEY;
-    for (j, (cell, track)) in cells.iter().zip(owner).enumerate() {
-        best = best.min(free_key(*cell, *track, score, j as u32));
+    for (j, cell) in cells.iter().enumerate() {
+        best = best.min(free_key(*cell, owner[j], score, j as u32));
     }
     if best == LAST_KEY {
         return None;

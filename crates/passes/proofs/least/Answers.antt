@@ -1,4 +1,4 @@
-use Rattle.std.proofs.Common.{rules, ◌≡◌, ℕ, ◌+◌, ◌<◌, length, ◌⊎◌, inr, arith}
+use Rattle.std.proofs.Common.{rules, ◌≡◌, ℕ, ◌+◌, ◌<◌, length, ◌⊎◌, inr}
 use Rattle.passes.proofs.Keys.{met_by_min}
 use Rattle.laws.specs.Lists.{at}
 use Rattle.passes.proofs.least.Goals as goal
