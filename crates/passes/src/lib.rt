@@ -1,5 +1,6 @@
 // The engine's passes over a row of the sheet and over its lists. A loop body is one call of a by-value function and has no branch, so
-// that it goes by vectors. Lists have an entry a report; a label says how far a search has to go to reach that report.
+// that it goes by vectors; one index serves all its lists, since a zip tests the end of each, which is slower. Lists have an entry a
+// report; a label says how far a search has to go to reach that report.
 #![tactic(auto)]
 
 ghost use Rattle.std.specs.Prelude.{IfSome, MatchOption, ◌≡◌, ℕ, ◌+◌, ◌-◌, ◌*◌, ◌<◌, ◌≤◌, ◌^◌, length, ◌⊎◌};
@@ -75,8 +76,8 @@ fn least(labels: &[u32], closings: &[u32], cap: u32) -> u32
     ensures { Low labels.now closings.now cap result }
 {
     let mut best = cap;
-    for (label, closing) in labels.iter().zip(closings) {
-        best = best.min(*label + *closing);
+    for (j, label) in labels.iter().enumerate() {
+        best = best.min(*label + closings[j]);
     }
     best
 }
@@ -87,8 +88,8 @@ fn first_at(labels: &[u32], closings: &[u32], label: u32) -> usize
     requires { Labels labels.now closings.now }
     ensures { Found labels.now closings.now label result }
 {
-    for (j, (here, closing)) in labels.iter().zip(closings).enumerate() {
-        if *here + *closing == label {
+    for (j, here) in labels.iter().enumerate() {
+        if *here + closings[j] == label {
             return j;
         }
     }
@@ -122,8 +123,8 @@ fn near_key(labels: &[u32], closings: &[u32]) -> u32
     ensures { Near labels.now closings.now result }
 {
     let mut best = LAST_KEY;
-    for (j, (label, closing)) in labels.iter().zip(closings).enumerate() {
-        best = best.min(near_of(*label + *closing, j as u32));
+    for (j, label) in labels.iter().enumerate() {
+        best = best.min(near_of(*label + closings[j], j as u32));
     }
     best
 }
@@ -186,8 +187,8 @@ pub fn raise_prices(pairing: &[u32], owner: &[u32], labels: &[u32], reach: u32, 
     requires { Paid pairing.now owner.now labels.now prices.old reach }
     ensures { PricesUp pairing.now labels.now reach prices.old prices.new }
 {
-    for (track, label) in owner.iter().zip(labels) {
-        raise_one(prices, *track, reach.saturating_sub(*label));
+    for (j, label) in labels.iter().enumerate() {
+        raise_one(prices, owner[j], reach.saturating_sub(*label));
     }
 }
 
@@ -256,8 +257,8 @@ fn first_free(cells: &[u32], owner: &[u32], score: u32) -> Option<usize>
     ensures { IfSome result (λ j. (j < length cells.now) × ((at cells.now j ≡ score) × (at owner.now j ≡ none))) }
 {
     let mut best = LAST_KEY;
-    for (j, (cell, track)) in cells.iter().zip(owner).enumerate() {
-        best = best.min(free_key(*cell, *track, score, j as u32));
+    for (j, cell) in cells.iter().enumerate() {
+        best = best.min(free_key(*cell, owner[j], score, j as u32));
     }
     if best == LAST_KEY {
         return None;
