@@ -1,6 +1,6 @@
--- The start: a track's price is set, and a free report of that score given to it; and the cases of a visit.
-use Prim.Native.Nat.{ℕ, ◌+◌, ◌*◌, ◌≤◌, ◌<◌}
-use mathlib.Core.Path.{◌≡◌, refl, ap, sym, subst, ◌∙◌}
+-- The start: a track's price is set, and a report of that score given to it, a free one or a less exacting track's.
+use Prim.Native.Nat.{ℕ, ◌+◌, ◌≤◌, ◌<◌}
+use mathlib.Core.Path.{◌≡◌, refl, ap, sym, ◌∙◌}
 use mathlib.Core.List.{List}
 use mathlib.Core.Logic.{inl, inr, ⊎_elim}
 use native.Mathlib.Omega.{arith}
@@ -8,13 +8,12 @@ use lib.ListN.{length, set, length-set}
 use lib.Seq.{get_or-set_same, get_or-set_other}
 use Rattle.laws.specs.Lists.{at}
 use Rattle.matching.specs.Pairing.{none, left_out}
-use Rattle.passes.specs.Cells.{far, IsCell, key_places}
-use Rattle.paths.specs.State.{cell, Shape, Own, Match, Good, PairedOrOut, Searchable, Inserted}
-use Rattle.engine.specs.State.{Fresh, Contest, Claimed, Visit}
-use Rattle.queue.proofs.Rise.{good_len}
+use Rattle.passes.specs.Cells.{far}
+use Rattle.paths.specs.State.{cell, Shape, Own, Match, Good}
+use Rattle.engine.specs.State.{Fresh, Contest, Claimed}
 use Rattle.laws.proofs.Stores.{same_or}
 use Rattle.paths.proofs.Swap.{reshaped, free_zero, free_vacant, refit, shape', stays, vacated, shape₁}
-use Rattle.paths.proofs.Rows.{row, row_length, row_at, row_end}
+use Rattle.paths.proofs.Rows.{row, row_length, row_at}
 
 module _ (cells : List ℕ) (m n track : ℕ) (pairing owner prices discounts : List ℕ) (G : Good cells m n pairing owner prices discounts) (track_in : track < n) (unpaired : at pairing track ≡ none)
     (score : ℕ) (score-in : score ≤ left_out) (score-least : (j : ℕ) → j < m → score ≤ cell cells m track j) where
@@ -66,132 +65,81 @@ module _ (cells : List ℕ) (m n track : ℕ) (pairing owner prices discounts : 
       matched = (rw unpaired at (refit cells m n prices₁ discounts pairing owner priced.shape j jm vacant track track_in fits tight));
     }
 
--- the part of the sheet that claim reads
-module _ (cells : List ℕ) (m track : ℕ) (pairing owner prices discounts : List ℕ) (F : Fresh cells m track pairing owner prices discounts) (place : ℕ) (place_is : place ≡ track) where
-  pub claim_cells : (length (row cells m place) ≤ key_places) × ((k : ℕ) → k < length (row cells m place) → IsCell (at (row cells m place) k))
-  claim_cells =
-      let h : place < length prices = omega (arith, F.track_in) in
-      let l = F.good.shape.cells_long in
-      let e = row_length cells m (length prices) place h l in (
-        omega (arith, e, F.good.shape.reports_few),
-        λ k g.
-            let q : k < m = omega (arith, e) in
-            rw (row_at cells m (length prices) place h l k q) (F.good.shape.cells_good (place * m + k) (omega (arith, row_end cells m (length prices) place h l))),
-      )
-
 -- what claim shows, over the part of the sheet that it reads
-module _ (cells : List ℕ) (m track : ℕ) (pairing owner prices discounts : List ℕ) (F : Fresh cells m track pairing owner prices discounts) (place : ℕ) (place_is : place ≡ track) (score : ℕ)
-    (score-in : score ≤ left_out) (score-least : (k : ℕ) → k < length (row cells m place) → score ≤ at (row cells m place) k) where
+module _ {cells : List ℕ} {m track : ℕ} {pairing owner prices discounts : List ℕ} (F : Fresh cells m track pairing owner prices discounts) {score : ℕ}
+    (score-in : score ≤ left_out) (score-least : (k : ℕ) → k < length (row cells m track) → score ≤ at (row cells m track) k) where
   abbrev n : ℕ
   n = length prices
 
-  row_long : length (row cells m place) ≡ m
-  row_long = row_length cells m n place (omega (arith, F.track_in)) F.good.shape.cells_long
+  row_long : length (row cells m track) ≡ m
+  row_long = row_length cells m n track F.track_in F.good.shape.cells_long
 
-  row_is : (k : ℕ) → k < m → at (row cells m place) k ≡ cell cells m track k
-  row_is k h = row_at cells m n place (omega (arith, F.track_in)) F.good.shape.cells_long k h ∙ rw place_is refl
+  row_is : (k : ℕ) → k < m → at (row cells m track) k ≡ cell cells m track k
+  row_is k h = row_at cells m n track F.track_in F.good.shape.cells_long k h
 
   least_in_row : (j : ℕ) → j < m → score ≤ cell cells m track j
   least_in_row j h = omega (arith, score-least j (omega (arith, row_long)), row_is j h)
 
-  pub claimed_price : Claimed cells m n track pairing pairing owner (set prices place score) discounts
+  pub claimed_price : Claimed cells m n track pairing pairing owner (set prices track score) discounts
   claimed_price = record {
-    good = rw place_is (priced cells m n track pairing owner prices discounts F.good F.track_in F.unpaired score score-in least_in_row);
+    good = priced cells m n track pairing owner prices discounts F.good F.track_in F.unpaired score score-in least_in_row;
     others = λ i d z. z;
   }
 
-  pub claimed_pair : (j : ℕ) → j < m → score < left_out → at (row cells m place) j ≡ score → at owner j ≡ none
-      → Claimed cells m n track pairing (set pairing place j) (set owner j track) (set prices place score) discounts
-  claimed_pair j h l e f = record {
-    good = rw place_is (given cells m n track pairing owner prices discounts F.good F.track_in F.unpaired score score-in least_in_row j h f l (sym (row_is j h) ∙ e));
-    others = λ i d z. get_or-set_other pairing place i j 0 (λ q. d (q ∙ place_is)) ∙ z;
+  pub claimed_pair : {j : ℕ} → j < length (row cells m track) → score < left_out → at (row cells m track) j ≡ score → at owner j ≡ none
+      → Claimed cells m n track pairing (set pairing track j) (set owner j track) (set prices track score) discounts
+  claimed_pair {j} k l e f = let h : j < m = omega (arith, row_long) in record {
+    good = given cells m n track pairing owner prices discounts F.good F.track_in F.unpaired score score-in least_in_row j h f l (sym (row_is j h) ∙ e);
+    others = λ i d z. get_or-set_other pairing track i j 0 d ∙ z;
   }
 
-  prices₁_long : length (set prices place score) ≡ n
+  prices₁_long : length (set prices track score) ≡ n
   prices₁_long = simp length-set refl
 
   -- where no report of that score is free
-  pub contested : (report : ℕ) → score < left_out → (report < length (row cells m place)) × (at (row cells m place) report ≡ score) → Contest cells m track report pairing owner (set prices place score) discounts
-  contested report l e =
+  pub contested : {report : ℕ} → score < left_out → (report < length (row cells m track)) × (at (row cells m track) report ≡ score) → Contest cells m track report pairing owner (set prices track score) discounts
+  contested {report} l e =
       let report_in : report < m = omega (arith, e.0, row_long) in
       let q : cell cells m track report ≡ score = sym (row_is report report_in) ∙ e.1 in
       record {
-        good = good_len cells m n pairing owner (set prices place score) discounts (rw place_is (priced cells m n track pairing owner prices discounts F.good F.track_in F.unpaired score score-in least_in_row));
+        good = rw prices₁_long (priced cells m n track pairing owner prices discounts F.good F.track_in F.unpaired score score-in least_in_row);
         track_in = omega (arith, prices₁_long, F.track_in);
         unpaired = F.unpaired;
         report_in = report_in;
         admissible = omega arith;
-        tight = omega (arith, ap (at (set prices place score)) (sym place_is), get_or-set_same prices place score 0 (omega (arith, F.track_in)), F.zero report report_in);
+        tight = omega (arith, get_or-set_same prices track score 0 (omega (arith, F.track_in)), F.zero report report_in);
       }
 
-  pub claimed_len : (pairing' owner' : List ℕ) → Claimed cells m (length (set prices place score)) track pairing pairing' owner' (set prices place score) discounts
-      → Claimed cells m n track pairing pairing' owner' (set prices place score) discounts
-  claimed_len pairing' owner' K = subst (λ (k : ℕ). Claimed cells m k track pairing pairing' owner' (set prices place score) discounts) prices₁_long K
-
-  pub claim_len : (length owner ≡ length (row cells m place)) × (m ≡ length (row cells m place))
-  claim_len = (F.good.shape.owner_long ∙ sym row_long, sym row_long)
-
 -- a report goes from its owner to a track without one
-module _ (cells : List ℕ) (m track report : ℕ) (pairing owner prices discounts : List ℕ) (C : Contest cells m track report pairing owner prices discounts) where
-  pub lost : Claimed cells m (length prices) track pairing pairing owner prices discounts
-  lost = record { good = C.good; others = λ i d z. z }
+module _ {cells : List ℕ} {m track report : ℕ} {pairing owner prices discounts : List ℕ} (C : Contest cells m track report pairing owner prices discounts)
+    (owner_in : at owner report < length prices) where
+  abbrev holder : ℕ
+  holder = at owner report
 
-  module _ (owner_in : at owner report < length prices) where
-    abbrev holder : ℕ
-    holder = at owner report
+  abbrev pairing₁ : List ℕ
+  pairing₁ = set pairing holder none
 
-    abbrev pairing₁ : List ℕ
-    pairing₁ = set pairing holder none
+  own : Own cells m (length prices) pairing prices discounts report holder
+  own = ⊎_elim (λ z. absurd (omega (arith, z.0, C.good.shape.tracks_few))) (λ y. y) (C.good.matched.owned report C.report_in (λ e. omega (arith, C.report_in, C.good.shape.reports_few)))
 
-    own : Own cells m (length prices) pairing prices discounts report holder
-    own = ⊎_elim (λ z. absurd (omega (arith, z.0, C.good.shape.tracks_few))) (λ y. y) (C.good.matched.owned report C.report_in (λ e. omega (arith, C.report_in, C.good.shape.reports_few)))
+  owner_paired : at pairing holder < m
+  owner_paired = omega (arith, own.back, C.report_in)
 
-    owner_paired : at pairing holder < m
-    owner_paired = omega (arith, own.back, C.report_in)
+  vacant₁ : Match cells m (length prices) pairing₁ owner prices discounts report
+  vacant₁ = (rw own.back at (vacated cells m (length prices) prices discounts pairing owner C.good.shape C.good.matched holder owner_in owner_paired))
 
-    vacant₁ : Match cells m (length prices) pairing₁ owner prices discounts report
-    vacant₁ = (rw own.back at (vacated cells m (length prices) prices discounts pairing owner C.good.shape C.good.matched holder owner_in owner_paired))
+  shape_vacated : Shape cells m (length prices) pairing₁ owner prices discounts
+  shape_vacated = shape₁ cells m (length prices) prices discounts pairing owner C.good.shape C.good.matched holder owner_in owner_paired
 
-    shape_vacated : Shape cells m (length prices) pairing₁ owner prices discounts
-    shape_vacated = shape₁ cells m (length prices) prices discounts pairing owner C.good.shape C.good.matched holder owner_in owner_paired
+  left : (i : ℕ) → at pairing i ≡ none → at pairing₁ i ≡ none
+  left i z = stays cells m (length prices) prices discounts pairing owner C.good.shape C.good.matched holder owner_in owner_paired i (λ q. omega (arith, ap (at pairing) q, owner_paired, C.good.shape.reports_few)) ∙ z
 
-    left : (i : ℕ) → at pairing i ≡ none → at pairing₁ i ≡ none
-    left i z = stays cells m (length prices) prices discounts pairing owner C.good.shape C.good.matched holder owner_in owner_paired i (λ q. omega (arith, ap (at pairing) q, owner_paired, C.good.shape.reports_few)) ∙ z
-
-    won : Claimed cells m (length prices) track pairing (set pairing₁ track report) (set owner report track) prices discounts
-    won = record {
-      good = record {
-        shape = shape' cells m (length prices) prices discounts pairing₁ owner shape_vacated report C.report_in vacant₁ track C.track_in C.admissible C.tight;
-        numbers = C.good.numbers;
-        matched = (rw (left track C.unpaired) at (refit cells m (length prices) prices discounts pairing₁ owner shape_vacated report C.report_in vacant₁ track C.track_in C.admissible C.tight));
-      };
-      others = λ i d z. get_or-set_other pairing₁ track i report 0 d ∙ left i z;
-    }
-
-  pub ousted : (place j loser : ℕ) → place ≡ track → j ≡ report → loser ≡ at owner j → loser < length prices
-      → Claimed cells m (length prices) track pairing (set (set pairing loser none) place report) (set owner j track) prices discounts
-  ousted place j loser place_is report-is loser-is l = rw (loser-is, report-is, place_is) (won (rw (loser-is, report-is) at l))
-
--- a visit where nothing is to do, and where the track is to be inserted
-module _ (cells : List ℕ) (m track : ℕ) (pairing owner prices discounts labels via closings : List ℕ) (Vs : Visit cells m track pairing owner prices discounts labels via closings) (place : ℕ) (place_is : place ≡ track) where
-  same : PairedOrOut m pairing prices track → Inserted cells m (length prices) track pairing prices pairing owner prices discounts
-  same d = record { good = Vs.good; done = λ i h a. a; track_done = d }
-
-  pub visit_pair : (at pairing place ≡ none → ⊥) → Inserted cells m (length prices) track pairing prices pairing owner prices discounts
-  visit_pair d = same (⊎_elim (λ z. absurd (d (ap (at pairing) place_is ∙ z))) (λ z. inl z.0) (Vs.good.matched.paired track Vs.track_in))
-
-  pub visit_left : left_out ≤ at prices place → Inserted cells m (length prices) track pairing prices pairing owner prices discounts
-  visit_left l = same (inr (omega (arith, ap (at prices) place_is, Vs.good.numbers.price_in track Vs.track_in)))
-
-  pub visit_ready : at pairing place ≡ none → Searchable cells m track pairing owner prices discounts labels via closings
-  visit_ready z = record { good = Vs.good; track_in = Vs.track_in; unpaired = sym (ap (at pairing) place_is) ∙ z; rooms = Vs.rooms }
-
--- all lists filled: no pair, and prices and discounts at 0
-pub blank : (cells : List ℕ) (m n : ℕ) (pairing owner prices discounts : List ℕ) → Shape cells m n pairing owner prices discounts
-    → ((i : ℕ) → i < n → at pairing i ≡ none) → ((j : ℕ) → j < m → at owner j ≡ none)
-    → ((i : ℕ) → i < n → at prices i ≡ 0) → ((j : ℕ) → j < m → at discounts j ≡ 0) → Good cells m n pairing owner prices discounts
-blank cells m n pairing owner prices discounts S unpaired free price-zero discount-zero = record {
-  shape = S;
-  numbers = record { fair = λ i j h g a. omega (arith, price-zero i h); price_in = λ i h. omega (arith, price-zero i h); discount_in = λ j h. omega (arith, discount-zero j h) };
-  matched = record { owned = λ j h d. inl (free j h, discount-zero j h); paired = λ i h. inl (unpaired i h) };
-}
+  pub won : Claimed cells m (length prices) track pairing (set pairing₁ track report) (set owner report track) prices discounts
+  won = record {
+    good = record {
+      shape = shape' cells m (length prices) prices discounts pairing₁ owner shape_vacated report C.report_in vacant₁ track C.track_in C.admissible C.tight;
+      numbers = C.good.numbers;
+      matched = (rw (left track C.unpaired) at (refit cells m (length prices) prices discounts pairing₁ owner shape_vacated report C.report_in vacant₁ track C.track_in C.admissible C.tight));
+    };
+    others = λ i d z. get_or-set_other pairing₁ track i report 0 d ∙ left i z;
+  }

@@ -14,7 +14,7 @@ use Rattle.laws.proofs.Stores.{le_or_lt, same_or}
 use Rattle.laws.specs.Lists.{at}
 use Rattle.matching.specs.Pairing.{none, score_end, left_out, Sheet, Admissible, HasReport, ValidPairing, score_or, total, Certificate, sheet_of}
 use Rattle.paths.specs.State.{cell, Own}
-use Rattle.engine.specs.State.{Solved}
+use Rattle.engine.specs.State.{Solved, Certified}
 
 module _ {cells : List ℕ} {m n : ℕ} {pairing owner prices discounts : List ℕ} (S : Solved cells m n pairing owner prices discounts) where
   abbrev sheet : Sheet
@@ -127,3 +127,8 @@ module _ {cells : List ℕ} {m n : ℕ} {pairing owner prices discounts : List �
         };
         totals = totals;
       }
+
+-- the same of what the caller's lists are at the end
+pub certified : {cells : List ℕ} {m n : ℕ} {pairing owner prices discounts pairing' prices' discounts' : List ℕ} → Solved cells m n pairing owner prices discounts
+    → pairing' ≡ pairing → prices' ≡ prices → discounts' ≡ discounts → Certified cells m n pairing' prices' discounts'
+certified S p u v = rw (p, u, v) (record { pairing_long = S.good.shape.pairing_long; prices_long = S.good.shape.prices_long; discounts_long = S.good.shape.discounts_long; shown = shown S })

@@ -2,215 +2,111 @@
 // one that gets none is inserted by one search.
 #![tactic(auto)]
 
-ghost use Rattle.std.specs.Prelude.{◌≡◌, ℕ, ◌<◌, length};
-ghost use Rattle.laws.specs.Lists.{at};
-ghost use Rattle.matching.specs.Pairing.{none};
+ghost use Rattle.std.specs.Prelude.{◌≡◌, length};
 ghost use Rattle.engine.specs.Call.{PairsSheet};
-ghost use Rattle.paths.specs.State.{Shape, Good, Inserted};
-ghost use Rattle.engine.specs.State.{Fresh, Contest, Claimed, WorkRoom, Visit, Solved, Tested, Certified};
+ghost use Rattle.paths.specs.Held.{SamePairs, SameTree, SameNumbers, Shape, Good, SearchLists, ReadyAgain, Inserted};
+ghost use Rattle.engine.specs.Held.{Blank, Fresh, Contest, Claimed, WorkRoom, Visit, Solved};
+ghost use Rattle.engine.specs.State.{Tested, Certified};
 
-use matching::{Fault, LEFT_OUT, NONE, index};
-use passes::{fill, free_report, row_best};
-use paths::insert;
+use matching::{Fault, LEFT_OUT, NONE, Sheet};
+use passes::{free_report, row_best};
+use paths::{Pairs, Tree, insert};
 use queue::insert_all;
 
 // The engine itself takes this many reports, whatever the public call takes.
 const WIDEST: usize = 200;
 
 // The report has the track's least score, and goes to it from a track of lower price.
-fn oust(
-    sheet: &[u32],
-    reports: usize,
-    track: u32,
-    report: u32,
-    pairing: &mut [u32],
-    owner: &mut [u32],
-    prices: &[u32],
-    discounts: &[u32],
-)
-    requires { Contest sheet.now reports track report pairing.old owner.old prices.now discounts.now }
-    ensures { Claimed sheet.now reports (length prices.now) track pairing.old pairing.new owner.new prices.now discounts.now }
+fn oust(sheet: Sheet, track: u32, report: u32, pairs: &mut Pairs<'_>)
+    requires { Contest sheet track report pairs.old }
+    ensures { SamePairs pairs.old pairs.new × (SameNumbers pairs.old pairs.new × Claimed sheet.entry track pairs.old pairs.new) }
 {
-    let place = index(track);
-    let j = index(report);
-    let loser = index(owner[j]);
-    if loser >= prices.len() {
+    let place = track as usize;
+    let j = report as usize;
+    let loser = pairs.owner[j] as usize;
+    if loser >= pairs.prices.len() {
         return;
     }
-    if prices[loser] >= prices[place] {
+    if pairs.prices[loser] >= pairs.prices[place] {
         return;
     }
-    pairing[loser] = NONE;
-    pairing[place] = report;
-    owner[j] = track;
+    pairs.pairing[loser] = NONE;
+    pairs.pairing[place] = report;
+    pairs.owner[j] = track;
 }
 
 // A track's price is its least score. A free report of that score is its, or one of a less exacting track.
-fn claim(
-    sheet: &[u32],
-    reports: usize,
-    track: u32,
-    pairing: &mut [u32],
-    owner: &mut [u32],
-    prices: &mut [u32],
-    discounts: &[u32],
-)
-    requires { Fresh sheet.now reports track pairing.old owner.old prices.old discounts.now }
-    ensures { Claimed sheet.now reports (length prices.old) track pairing.old pairing.new owner.new prices.new discounts.now }
+fn claim(sheet: Sheet, track: u32, pairs: &mut Pairs<'_>)
+    requires { Fresh sheet track pairs.old }
+    ensures { SamePairs pairs.old pairs.new × ((pairs.new.discounts.now ≡ pairs.old.discounts.now) × Claimed sheet.entry track pairs.old pairs.new) }
 {
-    let place = index(track);
-    let row = place * reports;
-    let row_end = row + reports;
-    let cells = &sheet[row..row_end];
+    let place = track as usize;
+    let cells = sheet.row(place);
     let Some(best) = row_best(cells) else {
-        prices[place] = LEFT_OUT;
+        pairs.prices[place] = LEFT_OUT;
         return;
     };
-    let report = best.report;
-    prices[place] = best.score;
-    let Some(j) = free_report(cells, owner, best.score, report) else {
-        oust(
-            sheet, reports, track, report, pairing, owner, prices, discounts,
-        );
+    pairs.prices[place] = best.score;
+    let Some(j) = free_report(cells, &mut *pairs.owner, best.score, best.report) else {
+        oust(sheet, track, best.report, pairs);
         return;
     };
-    pairing[place] = j as u32;
-    owner[j] = track;
+    pairs.pairing[place] = j as u32;
+    pairs.owner[j] = track;
 }
 
 // Every track claims, one after another.
-fn claim_all(
-    sheet: &[u32],
-    reports: usize,
-    pairing: &mut [u32],
-    owner: &mut [u32],
-    prices: &mut [u32],
-    discounts: &[u32],
-)
-    requires { Good sheet.now reports (length prices.old) pairing.old owner.old prices.old discounts.now × (((i : ℕ) → i < length prices.old → at pairing.old i ≡ none) × ((j : ℕ) → j < reports → at discounts.now j ≡ 0)) }
-    ensures { Good sheet.now reports (length prices.old) pairing.new owner.new prices.new discounts.now }
+fn claim_all(sheet: Sheet, pairs: &mut Pairs<'_>)
+    requires { Blank sheet (length pairs.old.prices.now) pairs.old }
+    ensures { SamePairs pairs.old pairs.new × ((pairs.new.discounts.now ≡ pairs.old.discounts.now) × Good sheet.entry (length pairs.old.prices.now) pairs.new) }
 {
-    let mut track: usize = 0;
-    while track < prices.len() {
-        claim(
-            sheet,
-            reports,
-            track as u32,
-            pairing,
-            owner,
-            prices,
-            discounts,
-        );
-        track += 1;
+    for track in 0..pairs.prices.len() {
+        claim(sheet, track as u32, pairs);
     }
 }
 
 // A track that is paired, or left out at the full price, needs no search.
-fn visit(
-    sheet: &[u32],
-    reports: usize,
-    track: u32,
-    pairing: &mut [u32],
-    owner: &mut [u32],
-    prices: &mut [u32],
-    discounts: &mut [u32],
-    labels: &mut [u32],
-    via: &mut [u32],
-    closings: &mut [u32],
-)
-    requires { Visit sheet.now reports track pairing.old owner.old prices.old discounts.old labels.old via.old closings.old }
-    ensures { Inserted sheet.now reports (length prices.old) track pairing.old prices.old pairing.new owner.new prices.new discounts.new }
+fn visit(sheet: Sheet, track: u32, pairs: &mut Pairs<'_>, tree: &mut Tree<'_>)
+    requires { Visit sheet track pairs.old tree.old }
+    ensures { (SamePairs pairs.old pairs.new × (SameTree tree.old tree.new × SearchLists sheet.entry tree.new)) × Inserted sheet.entry track pairs.old pairs.new }
 {
-    let place = index(track);
-    let report = pairing[place];
-    if report != NONE {
+    let place = track as usize;
+    if pairs.pairing[place] != NONE || pairs.prices[place] >= LEFT_OUT {
         return;
     }
-    let price = prices[place];
-    if price >= LEFT_OUT {
-        return;
-    }
-    insert(
-        sheet, reports, track, pairing, owner, prices, discounts, labels, via, closings,
-    );
+    insert(sheet, track, pairs, tree);
 }
 
 // No track is paired, and every price and discount is 0.
-fn clear(
-    sheet: &[u32],
-    reports: usize,
-    pairing: &mut [u32],
-    owner: &mut [u32],
-    prices: &mut [u32],
-    discounts: &mut [u32],
-)
-    requires { Shape sheet.now reports (length prices.old) pairing.old owner.old prices.old discounts.old }
-    ensures { Good sheet.now reports (length prices.old) pairing.new owner.new prices.new discounts.new × (((i : ℕ) → i < length prices.old → at pairing.new i ≡ none) × ((j : ℕ) → j < reports → at discounts.new j ≡ 0)) }
+fn clear(sheet: Sheet, pairs: &mut Pairs<'_>)
+    requires { Shape sheet (length pairs.old.prices.now) pairs.old }
+    ensures { SamePairs pairs.old pairs.new × Blank sheet.entry (length pairs.old.prices.now) pairs.new }
 {
-    fill(pairing, NONE);
-    fill(owner, NONE);
-    fill(prices, 0);
-    fill(discounts, 0);
+    pairs.pairing.fill(NONE);
+    pairs.owner.fill(NONE);
+    pairs.prices.fill(0);
+    pairs.discounts.fill(0);
 }
 
 // The claims, and the insertion of those that got nothing.
-fn match_all(
-    sheet: &[u32],
-    reports: usize,
-    pairing: &mut [u32],
-    owner: &mut [u32],
-    prices: &mut [u32],
-    discounts: &mut [u32],
-    labels: &mut [u32],
-    via: &mut [u32],
-    closings: &mut [u32],
-    slack: &mut [u32],
-)
-    requires { WorkRoom sheet.now reports (length prices.old) pairing.old owner.old prices.old discounts.old labels.old via.old closings.old slack.old }
-    ensures { Good sheet.now reports (length prices.old) pairing.new owner.new prices.new discounts.new }
+fn match_all(sheet: Sheet, pairs: &mut Pairs<'_>, tree: &mut Tree<'_>, slack: &mut [u32])
+    requires { WorkRoom sheet pairs.old tree.old slack.old }
+    ensures { ReadyAgain sheet.entry pairs.old tree.old pairs.new tree.new }
 {
-    clear(sheet, reports, pairing, owner, prices, discounts);
-    claim_all(sheet, reports, pairing, owner, prices, discounts);
-    insert_all(
-        sheet, reports, pairing, owner, prices, discounts, labels, via, closings, slack,
-    );
+    clear(sheet, pairs);
+    claim_all(sheet, pairs);
+    insert_all(sheet, pairs, tree, slack);
 }
 
 // The whole answer, in working lists that are lent.
-fn assign(
-    sheet: &[u32],
-    reports: usize,
-    pairing: &mut [u32],
-    owner: &mut [u32],
-    prices: &mut [u32],
-    discounts: &mut [u32],
-    labels: &mut [u32],
-    via: &mut [u32],
-    closings: &mut [u32],
-    slack: &mut [u32],
-)
-    requires { WorkRoom sheet.now reports (length prices.old) pairing.old owner.old prices.old discounts.old labels.old via.old closings.old slack.old }
-    ensures { Solved sheet.now reports (length prices.old) pairing.new owner.new prices.new discounts.new }
+fn assign(sheet: Sheet, pairs: &mut Pairs<'_>, tree: &mut Tree<'_>, slack: &mut [u32])
+    requires { WorkRoom sheet pairs.old tree.old slack.old }
+    ensures { (SamePairs pairs.old pairs.new × SameTree tree.old tree.new) × Solved sheet.entry (length pairs.old.prices.now) pairs.new }
 {
-    match_all(
-        sheet, reports, pairing, owner, prices, discounts, labels, via, closings, slack,
-    );
+    match_all(sheet, pairs, tree, slack);
     // By now each track has a report or is left out: this walk shows it.
-    let mut track: usize = 0;
-    while track < prices.len() {
-        visit(
-            sheet,
-            reports,
-            track as u32,
-            pairing,
-            owner,
-            prices,
-            discounts,
-            labels,
-            via,
-            closings,
-        );
-        track += 1;
+    for track in 0..pairs.prices.len() {
+        visit(sheet, track as u32, pairs, tree);
     }
 }
 
@@ -230,18 +126,22 @@ pub fn pair_cells(
     let mut via = [0u32; WIDEST];
     let mut closings = [0u32; WIDEST];
     let mut slack = [0u32; WIDEST];
-    assign(
-        sheet,
-        reports,
+    let mut pairs = Pairs {
         pairing,
-        &mut owner[..reports],
+        owner: &mut owner[..reports],
         prices,
         discounts,
-        &mut labels[..reports],
-        &mut via[..reports],
-        &mut closings[..reports],
-        &mut slack[..reports],
-    );
+    };
+    let mut tree = Tree {
+        labels: &mut labels[..reports],
+        via: &mut via[..reports],
+        closings: &mut closings[..reports],
+    };
+    let cells = Sheet {
+        cells: sheet,
+        reports,
+    };
+    assign(cells, &mut pairs, &mut tree, &mut slack[..reports]);
 }
 
 // The public call: refused by 21 or 22, and then nothing is written; else the lists' first entries are written, and no more.

@@ -16,8 +16,12 @@ SamePairs p q = (q.pairing.ghost_name ≡ p.pairing.ghost_name) × ((q.owner.gho
 abbrev pub SameTree : Tree → Tree → Type 0
 SameTree t u = (u.labels.ghost_name ≡ t.labels.ghost_name) × ((u.via.ghost_name ≡ t.via.ghost_name) × (u.closings.ghost_name ≡ t.closings.ghost_name))
 
+-- of n tracks
+abbrev pub Shape : Sheet → (n : ℕ) → Pairs → Type 0
+Shape s n p = state.Shape s.cells.now s.reports n p.pairing.now p.owner.now p.prices.now p.discounts.now
+
 -- fair prices, and a pairing with no vacant report, of n tracks
-abbrev pub Good : Sheet → ℕ → Pairs → Type 0
+abbrev pub Good : Sheet → (n : ℕ) → Pairs → Type 0
 Good s n p = state.Good s.cells.now s.reports n p.pairing.now p.owner.now p.prices.now p.discounts.now
 
 -- the lists of a search, an entry a report

@@ -1,6 +1,6 @@
--- A track in a pair bounds the slacks; and the number of tracks by another name.
+-- A track in a pair bounds the slacks.
 use Prim.Native.Nat.{ℕ, ◌+◌, ◌*◌, ◌<◌}
-use mathlib.Core.Path.{◌≡◌, ap, sym, subst, ◌∙◌}
+use mathlib.Core.Path.{◌≡◌, ap, sym, ◌∙◌}
 use mathlib.Core.List.{List}
 use mathlib.Core.Logic.{⊎_elim}
 use native.Mathlib.Omega.{arith}
@@ -46,10 +46,3 @@ module _ (cells : List ℕ) (m track : ℕ) (pairing owner prices discounts slac
         )))
         (λ d. omega (arith, K.room i j (omega arith) g p f a, R.less j s)) (same_or i track);
   }
-
--- Good with another name for the number of tracks
-pub good_at : (cells : List ℕ) (m n k : ℕ) (pairing owner prices discounts : List ℕ) → k ≡ n → Good cells m k pairing owner prices discounts → Good cells m n pairing owner prices discounts
-good_at cells m n k pairing owner prices discounts e G = subst (λ (x : ℕ). Good cells m x pairing owner prices discounts) e G
-
-pub good_len : (cells : List ℕ) (m n : ℕ) (pairing owner prices discounts : List ℕ) → Good cells m n pairing owner prices discounts → Good cells m (length prices) pairing owner prices discounts
-good_len cells m n pairing owner prices discounts G = rw G.shape.prices_long G
