@@ -62,6 +62,7 @@ fn nearest_free(row: &[u32], taken: &[bool]) -> u32
 fn take_report(taken: &mut [bool], report: u32)
     ensures { taken.new ≡ set taken.old report true }
 {
+    // By index: of what is written through get_mut a proof knows no element.
     let j = index(report);
     if j < taken.len() {
         taken[j] = true;

@@ -12,7 +12,8 @@ const MOST_DIGITS: usize = 10;
 
 pub const MOST_NUMBER: usize = MOST_DIGITS + 1;
 
-// Puts text at a place; the answer is the place behind it.
+// Puts text at a place; the answer is the place behind it. The place stays a number beside the buffer: the batch program's promises of
+// steps, reads and prints are said of a stand that holds it.
 pub fn put_text(out: &mut [u8], place: usize, text: &[u8]) -> usize
     requires { place + length text.now ≤ length out.old }
     ensures { Put out.old place text.now out.new result }
