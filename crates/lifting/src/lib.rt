@@ -5,7 +5,7 @@
 ghost use Rattle.std.specs.Prelude.{◌≡◌, ℕ, ◌+◌, ◌-◌, ◌%◌, ◌<◌, ◌≤◌, ◌^◌, ◌⊎◌, length, IfSome};
 ghost use Rattle.laws.specs.Lists.{at};
 ghost use Rattle.matching.specs.Pairing.{none, left_out, most_tracks};
-ghost use Rattle.passes.specs.Cells.{IsCell, far, key_places};
+ghost use Rattle.passes.specs.Cells.{far, key_places};
 ghost use Rattle.lifting.specs.Slack.{Small, Tightenable, Row, Bounded, Tightened, Spent, Beside, Raised};
 
 use matching::{LEFT_OUT, NONE};
@@ -51,8 +51,8 @@ pub fn least_slack(owner: &[u32], slack: &[u32]) -> u32
     ensures { (result ≤ left_out) × ((k : ℕ) → k < length slack.now → at owner.now k ≡ none → result ≤ at slack.now k) }
 {
     let mut best = LEFT_OUT;
-    for (track, room) in owner.iter().zip(slack) {
-        best = best.min(if_free(*track, *room));
+    for (j, room) in slack.iter().enumerate() {
+        best = best.min(if_free(owner[j], *room));
     }
     best
 }
@@ -110,8 +110,8 @@ pub fn next_track(pairing: &[u32], prices: &[u32]) -> Option<u32>
     ensures { IfSome result (λ track. (track < length prices.now) × (at pairing.now track ≡ none)) }
 {
     let mut best = 0;
-    for (j, (report, price)) in pairing.iter().zip(prices).enumerate() {
-        best = best.max(queue_key(*report, *price, j as u32));
+    for (j, price) in prices.iter().enumerate() {
+        best = best.max(queue_key(pairing[j], *price, j as u32));
     }
     if best == 0 {
         return None;

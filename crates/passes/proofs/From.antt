@@ -1,6 +1,6 @@
 -- A nearest report among those from front on is a nearest one, where those before are closed.
-use Prim.Native.Nat.{ℕ, ◌+◌, ◌-◌, ◌≤◌, ◌<◌, ◌^◌}
-use mathlib.Core.Path.{◌≡◌, ap, sym, ◌∙◌}
+use Prim.Native.Nat.{ℕ, ◌+◌, ◌-◌, ◌≤◌, ◌<◌}
+use mathlib.Core.Path.{◌≡◌, ap, ◌∙◌}
 use mathlib.Core.List.{List}
 use mathlib.Core.Logic.{⊎_elim}
 use native.Mathlib.Omega.{arith}
@@ -8,7 +8,7 @@ use lib.ListN.{length}
 use Rattle.laws.proofs.Stores.{le_or_lt}
 use Rattle.laws.proofs.Parts.{part, part_length, part_at}
 use Rattle.laws.specs.Lists.{at}
-use Rattle.passes.specs.Cells.{Labels, FromLabels, Nearest}
+use Rattle.passes.specs.Cells.{FromLabels, Nearest}
 
 -- what stands at k, in the part from front on
 pub on_at : (xs : List ℕ) (front k : ℕ) → front ≤ k → k < length xs → at (part xs front (length xs)) (k - front) ≡ at xs k
@@ -24,23 +24,10 @@ module _ (front : ℕ) (labels closings : List ℕ) (cap : ℕ) (F : FromLabels 
   labels_on_long : length labels_on ≡ length labels - front
   labels_on_long = part_length labels front (length labels) (omega arith)
 
-  closings_on_long : length closings_on ≡ length labels - front
-  closings_on_long = part_length closings front (length closings) (omega arith) ∙ ap (λ (x : ℕ). x - front) F.labelled.same
-
   -- what stands at k in the parts
   both : (k : ℕ) → k < length labels - front → at labels_on k + at closings_on k ≡ at labels (front + k) + at closings (front + k)
   both k h =
       omega (arith, part_at labels front (length labels) k (omega arith), part_at closings front (length closings) k (omega (arith, F.labelled.same)))
-
-  pub from_labels : Labels labels_on closings_on × (cap < 2 ^ 31)
-  from_labels = (
-    record {
-      same = closings_on_long ∙ sym labels_on_long;
-      few = omega (arith, labels_on_long, F.labelled.few);
-      small = λ k h. omega (arith, labels_on_long, both k (omega (arith, labels_on_long)), F.labelled.small (front + k) (omega (arith, labels_on_long)));
-    },
-    F.capped,
-  )
 
   module _ (j : ℕ) (N : Nearest labels_on closings_on cap j) where
     -- a report from front on, as one of the part

@@ -8,7 +8,7 @@ use Rattle.laws.specs.Lists.{at}
 use Rattle.matching.specs.Pairing.{none, score_end, left_out}
 use lib.ListN.{length}
 use Rattle.laws.proofs.Stores.{le_or_lt}
-use Rattle.passes.specs.Cells.{IsCell, key_scores, key_places, key, Keyed, RowLeast, near}
+use Rattle.passes.specs.Cells.{IsCell, key_scores, key_places, key, Keyed, RowLeast}
 
 pub key_is : (cell k : ℕ) → key cell k ≡ cell % key_scores * key_places + k
 unfolding key
@@ -42,25 +42,6 @@ module _ (cells : List ℕ) (few : length cells ≤ key_places) (cells_good : (k
     below = λ k g. omega (arith, K.below k g, key_is (at cells k) k);
     met = λ g. ⊎_elim (λ e. absurd (omega arith)) (λ s. here h s.0 s.1.0 s.1.1) K.met;
   }
-
--- ---- labels and reports in one key
-
-pub near_low : (r b x : ℕ) → r ≤ b → b / key_places ≤ x → r / key_places ≤ x
-near_low r b x h g = omega arith
-
-pub near_here : (r b x j : ℕ) → r ≤ b → j < key_places → (x < near → b ≡ x * key_places + j) → (near ≤ x → b ≡ near * key_places + j) → r / key_places ≤ x
-near_here r b x j h s n f = ⊎_elim (λ l. omega (arith, f l)) (λ l. omega (arith, n l)) (le_or_lt near x)
-
-pub near_met : (labels closings : List ℕ) (j r : ℕ) → j < key_places → j < length labels
-    → (at labels j + at closings j < near → r ≡ (at labels j + at closings j) * key_places + j) → (near ≤ at labels j + at closings j → r ≡ near * key_places + j)
-    → r / key_places < near → (r % key_places < length labels) × (at labels (r % key_places) + at closings (r % key_places) ≡ r / key_places)
-near_met labels closings j r s h n f g = ⊎_elim
-    (λ (l : near ≤ at labels j + at closings j). absurd (omega (arith, f l)))
-    (λ (l : at labels j + at closings j < near).
-    let d : r / key_places ≡ at labels j + at closings j = whole_part r (at labels j + at closings j) j (n l) s in
-    let q : r % key_places ≡ j = omega (arith, n l) in
-    rw q (h, sym d))
-    (le_or_lt near (at labels j + at closings j))
 
 -- ---- the lesser of two
 

@@ -1,5 +1,6 @@
 // The engine's passes over a row of the sheet and over its lists. A loop body is one call of a by-value function and has no branch, so
-// that it goes by vectors. Lists have an entry a report; a label says how far a search has to go to reach that report.
+// that it goes by vectors; one index serves all its lists, since a zip tests the end of each, which is slower. Lists have an entry a
+// report; a label says how far a search has to go to reach that report.
 #![tactic(auto)]
 
 ghost use Rattle.std.specs.Prelude.{IfSome, MatchOption, ◌≡◌, ℕ, ◌+◌, ◌-◌, ◌*◌, ◌<◌, ◌≤◌, ◌^◌, length, ◌⊎◌};
@@ -37,16 +38,16 @@ pub fn fill(a: &mut [u32], v: u32)
 // What a track at this label offers to a report: `none` is far away.
 fn offer(cell: u32, discount: u32, label: u32, price: u32) -> u32
     requires { (discount ≤ left_out) × ((label ≤ left_out) × ((price ≤ left_out) × ((cell < far → price ≤ cell + discount) × IsCell cell))) }
-    ensures { (cell < far → result + price ≡ label + cell + discount) × ((far ≤ cell → left_out < result) × (result < 2 ^ 31)) }
+    ensures { (cell < far → result + price ≡ label + cell + discount) × (far ≤ cell → left_out < result) }
 {
     cell % FAR + discount - price + label
 }
 
-// x where a is below b, else y.
+// x where a is below b, else y. In a vector, a test by `at most` takes the lesser of the two, which `relax` has at hand.
 pub fn choose(a: u32, b: u32, x: u32, y: u32) -> u32
     ensures { (a < b → result ≡ x) × (b ≤ a → result ≡ y) }
 {
-    if a < b { x } else { y }
+    if b <= a { y } else { x }
 }
 
 // A track at this label offers to every report of its row.
@@ -75,19 +76,20 @@ fn least(labels: &[u32], closings: &[u32], cap: u32) -> u32
     ensures { Low labels.now closings.now cap result }
 {
     let mut best = cap;
-    for (label, closing) in labels.iter().zip(closings) {
-        best = best.min(*label + *closing);
+    for (j, label) in labels.iter().enumerate() {
+        best = best.min(*label + closings[j]);
     }
     best
 }
 
-// The first open report at this label, or the length.
+// The first open report at this label, or the length: a search's own end mark up to nearest_from, so that an Option here would only
+// be turned back.
 fn first_at(labels: &[u32], closings: &[u32], label: u32) -> usize
     requires { Labels labels.now closings.now }
     ensures { Found labels.now closings.now label result }
 {
-    for (j, (here, closing)) in labels.iter().zip(closings).enumerate() {
-        if *here + *closing == label {
+    for (j, here) in labels.iter().enumerate() {
+        if *here + closings[j] == label {
             return j;
         }
     }
@@ -109,8 +111,8 @@ fn far_nearest(labels: &[u32], closings: &[u32], cap: u32) -> usize
 
 // A label and its report in one key; labels from NEAR on count alike.
 fn near_of(label: u32, j: u32) -> u32
-    requires { (label < 2 ^ 31) × (j < key_places) }
-    ensures { (label < near → result ≡ label * key_places + j) × ((near ≤ label → result ≡ near * key_places + j) × (result < 2 ^ 31)) }
+    requires { j < key_places }
+    ensures { (label < near → result ≡ label * key_places + j) × (near ≤ label → result ≡ near * key_places + j) }
 {
     label.min(NEAR) * KEY_PLACES + j
 }
@@ -121,8 +123,8 @@ fn near_key(labels: &[u32], closings: &[u32]) -> u32
     ensures { Near labels.now closings.now result }
 {
     let mut best = LAST_KEY;
-    for (j, (label, closing)) in labels.iter().zip(closings).enumerate() {
-        best = best.min(near_of(*label + *closing, j as u32));
+    for (j, label) in labels.iter().enumerate() {
+        best = best.min(near_of(*label + closings[j], j as u32));
     }
     best
 }
@@ -185,8 +187,8 @@ pub fn raise_prices(pairing: &[u32], owner: &[u32], labels: &[u32], reach: u32, 
     requires { Paid pairing.now owner.now labels.now prices.old reach }
     ensures { PricesUp pairing.now labels.now reach prices.old prices.new }
 {
-    for (track, label) in owner.iter().zip(labels) {
-        raise_one(prices, *track, reach.saturating_sub(*label));
+    for (j, label) in labels.iter().enumerate() {
+        raise_one(prices, owner[j], reach.saturating_sub(*label));
     }
 }
 
@@ -201,9 +203,10 @@ pub fn raise_discounts(labels: &[u32], reach: u32, discounts: &mut [u32])
 }
 
 // A score and its report in one key.
+#[tactic(auto, unfolding(crate::specs::Cells::key))]
 fn key_of(cell: u32, j: u32) -> u32
     requires { j < key_places }
-    ensures { (result ≡ key cell j) × (result < 2 ^ 31) }
+    ensures { result ≡ key cell j }
 {
     cell % KEY_SCORES * KEY_PLACES + j
 }
@@ -239,7 +242,6 @@ pub fn row_best(cells: &[u32]) -> Option<Cheapest>
 
 // Report j, if it has this score and no track has it, or the last key.
 fn free_key(cell: u32, owner: u32, score: u32, j: u32) -> u32
-    requires { j < key_places }
     ensures { (result ≡ last_key) ⊎ ((result ≡ j) × ((cell ≡ score) × (owner ≡ none))) }
 {
     if cell == score && owner == NONE {
@@ -255,8 +257,8 @@ fn first_free(cells: &[u32], owner: &[u32], score: u32) -> Option<usize>
     ensures { IfSome result (λ j. (j < length cells.now) × ((at cells.now j ≡ score) × (at owner.now j ≡ none))) }
 {
     let mut best = LAST_KEY;
-    for (j, (cell, track)) in cells.iter().zip(owner).enumerate() {
-        best = best.min(free_key(*cell, *track, score, j as u32));
+    for (j, cell) in cells.iter().enumerate() {
+        best = best.min(free_key(*cell, owner[j], score, j as u32));
     }
     if best == LAST_KEY {
         return None;
