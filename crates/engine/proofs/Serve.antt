@@ -1,5 +1,5 @@
 -- The call's two ends: refused, or served by what the engine gives for the sheet's own cells.
-use Prim.Native.Nat.{ℕ, zero, suc, ◌*◌, ◌<◌}
+use Prim.Native.Nat.{ℕ, ◌*◌, ◌<◌}
 use mathlib.Core.Path.{◌≡◌, refl, ap, sym, ◌∙◌}
 use mathlib.Core.Bool.{true}
 use mathlib.Core.List.{List, ◌++◌}
@@ -9,16 +9,19 @@ use lib.Dec.{eqb, ltb}
 use lib.ListN.{length, take, drop, length-append, get_or-append}
 use lib.Seq.{drop_at, get_or-take, length-take-le}
 use borrow.Author.Tests.{ne_eqb, ltb-true}
+use Rattle.std.specs.Prelude.{Ok}
+use Rattle.std.specs.Result.{IsErrAnd}
+use Rattle.std.proofs.lemmas.Result.{err_from_is_err_and}
 use Rattle.laws.proofs.Stores.{same_or}
 use Rattle.laws.proofs.Tests.{or_second, each_at}
 use Rattle.laws.specs.Lists.{at}
 use Rattle.matching.specs.Pairing.{none, score_end}
-use Rattle.matching.specs.Answer.{Sizes, Fits, cell_ok, cells_ok, check_answer}
-use Rattle.matching.proofs.Facts.{cells_ok_lem}
+use Rattle.matching.specs.declared.Fault.{Fault}
+use Rattle.matching.specs.Answer.{Sizes, Fits, cell_ok, cells_ok, check_answer, fault_number, check_number}
+use Rattle.matching.proofs.Facts.{cells_ok_lem, answer_back, no_zero}
 use Rattle.matching.proofs.Theorems.{not_refused, certificate_zero, beyond_is_not_read}
 use Rattle.passes.specs.Cells.{IsCell}
-use Rattle.engine.specs.declared.Paired.TheVariants.{Refused, Done}
-use Rattle.engine.specs.Call.{pairing_refusal, paired_by, SheetPaired, PairsSheet}
+use Rattle.engine.specs.Call.{pairing_refusal, Paired, paired_by, SheetPaired, PairsSheet}
 use Rattle.engine.specs.State.{Tested, Certified}
 
 is_cell : (c : ℕ) → cell_ok c ≡ true → IsCell c
@@ -26,11 +29,15 @@ is_cell c e =
     ⊎_elim inr (λ d. inl (ltb-true c score_end (or_second (eqb c none) (ltb c score_end) e (ne_eqb c none d)))) (same_or c none)
 
 module _ (n m : ℕ) (cells pairing prices discounts : List ℕ) where
-  pub refuses : (k : ℕ) → k ≡ pairing_refusal n m cells pairing prices discounts → (k ≡ 0 → ⊥) → PairsSheet n m cells pairing prices discounts pairing prices discounts (Refused k)
-  unfolding paired_by
-  refuses zero e d = absurd (d refl)
-  refuses (suc k) e d =
-      record { answered = ap paired_by e; refused = λ z. (refl, (refl, refl)); served = λ z. absurd (d (e ∙ z)) }
+  pub refuses : (a : Paired) (told : Fault) → IsErrAnd a (λ f. f ≡ told) → fault_number told ≡ pairing_refusal n m cells pairing prices discounts → PairsSheet n m cells pairing prices discounts pairing prices discounts a
+  refuses a told h e =
+      let w = err_from_is_err_and a h in
+      let number : check_number a ≡ pairing_refusal n m cells pairing prices discounts = rw (w.1, w.2) e in
+      record {
+        answered = sym (answer_back a) ∙ ap paired_by number;
+        refused = λ z. (refl, (refl, refl));
+        served = λ z. absurd (no_zero told (e ∙ z));
+      }
 
   module _ (e : pairing_refusal n m cells pairing prices discounts ≡ 0) where
     pub sizes : Sizes n m (length cells) (length pairing) (length prices) (length discounts)
@@ -108,8 +115,7 @@ module _ (n m : ℕ) (cells pairing prices discounts : List ℕ) where
             discounts_beyond = drop_at discounts' (drop m discounts) m C.discounts_long;
           }
 
-    pub serves : (pairing' prices' discounts' : List ℕ) → Certified own m (length (take n prices)) pairing' prices' discounts' → PairsSheet n m cells pairing prices discounts (pairing' ++ drop n pairing) (prices' ++ drop n prices) (discounts' ++ drop m discounts) Done
-    unfolding paired_by
+    pub serves : (pairing' prices' discounts' : List ℕ) → Certified own m (length (take n prices)) pairing' prices' discounts' → PairsSheet n m cells pairing prices discounts (pairing' ++ drop n pairing) (prices' ++ drop n prices) (discounts' ++ drop m discounts) (Ok tt)
     serves pairing' prices' discounts' C =
         record {
           answered = sym (ap paired_by e);

@@ -8,8 +8,7 @@ use Rattle.laws.specs.Lists.{at}
 use Rattle.matching.specs.Pairing.{Agree, Best, sheet_of}
 use Rattle.matching.specs.Answer.{Fits, check_answer}
 use Rattle.matching.proofs.Theorems.{zero_certificate, zero_is_best, best_is_zero, best_agree}
-use Rattle.engine.specs.declared.Paired.{Paired}
-use Rattle.engine.specs.Call.{pairing_refusal, SheetPaired, PairsSheet}
+use Rattle.engine.specs.Call.{pairing_refusal, Paired, SheetPaired, PairsSheet}
 
 module _ {n m : ℕ} {cells pairing prices discounts pairing' prices' discounts' : List ℕ} (R : SheetPaired n m cells pairing prices discounts pairing' prices' discounts') where
   -- The pairing that is written is best.

@@ -8,20 +8,13 @@ ghost use Rattle.paths.specs.Held.{SamePairs, SameTree, SameNumbers, Shape, Good
 ghost use Rattle.engine.specs.Held.{Blank, Fresh, Contest, Claimed, WorkRoom, Visit, Solved};
 ghost use Rattle.engine.specs.State.{Tested, Certified};
 
-use matching::{LEFT_OUT, NONE, Sheet};
+use matching::{Fault, LEFT_OUT, NONE, Sheet};
 use passes::{free_report, row_best};
 use paths::{Pairs, Tree, insert};
 use queue::insert_all;
 
 // The engine itself takes this many reports, whatever the public call takes.
 const WIDEST: usize = 200;
-
-// The answer of the pairing call: 01's number, or the lists are written.
-#[derive(Clone, Copy)]
-pub enum Paired {
-    Refused(u8),
-    Done,
-}
 
 // The report has the track's least score, and goes to it from a track of lower price.
 fn oust(sheet: Sheet, track: u32, report: u32, pairs: &mut Pairs<'_>)
@@ -160,27 +153,23 @@ pub fn pair_sheet(
     pairing: &mut [u32],
     prices: &mut [u32],
     discounts: &mut [u32],
-) -> Paired
+) -> Result<(), Fault>
     ensures { PairsSheet tracks reports sheet.now pairing.old prices.old discounts.old pairing.new prices.new discounts.new result }
 {
-    let number = matching::sheet_refusal(
+    matching::sheet_refusal(
         tracks,
         reports,
         sheet,
         pairing.len(),
         prices.len(),
         discounts.len(),
-    );
-    if number != 0 {
-        return Paired::Refused(number);
-    }
-    let cells = tracks * reports;
+    )?;
     pair_cells(
-        &sheet[..cells],
+        &sheet[..tracks * reports],
         reports,
         &mut pairing[..tracks],
         &mut prices[..tracks],
         &mut discounts[..reports],
     );
-    Paired::Done
+    Ok(())
 }

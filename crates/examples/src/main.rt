@@ -7,6 +7,7 @@ ghost use Rattle.numbers.specs.Scales.{range_most, half_turn, sectors, range_spe
 ghost use Rattle.records.specs.Fields.{confidence_most, quality_most, high_circle, low_circle, Sound};
 ghost use Rattle.settling.specs.Settle.{Settleable};
 
+use matching::Fault;
 use numbers::Int;
 use records::{Report, Site, Track};
 use scoring::Scored;
@@ -179,6 +180,14 @@ fn price_line(rt: &HostRuntime, name: &str, price: u32) -> io::Result<()> {
     line(rt, name, price as u64)
 }
 
+// The check's number: 0 where it finds no fault.
+fn fault_number(answer: Result<(), Fault>) -> u64 {
+    match answer {
+        Ok(()) => 0,
+        Err(fault) => fault as u64,
+    }
+}
+
 // The check answers 0 where it passes, which asks that the total is all prices less all discounts.
 fn pairings(rt: &HostRuntime) -> io::Result<()> {
     let sheet = [10, 20, 12, matching::NONE];
@@ -188,17 +197,17 @@ fn pairings(rt: &HostRuntime) -> io::Result<()> {
     line(
         rt,
         "scores 10 20, 12 none; total 32; prices 20 22; discounts 10 0: check = ",
-        matching::check_pairing(2, 2, &sheet, &crossed, &prices, &discounts) as u64,
+        fault_number(matching::check_pairing(2, 2, &sheet, &crossed, &prices, &discounts)),
     )?;
     let mut left_out = [0];
     let mut price = [0];
     let mut no_discounts = [];
-    engine::pair_sheet(1, 0, &[], &mut left_out, &mut price, &mut no_discounts);
+    let _ = engine::pair_sheet(1, 0, &[], &mut left_out, &mut price, &mut no_discounts);
     price_line(rt, "one track, no report: price = ", price[0])?;
     line(
         rt,
         "one track, no report: check = ",
-        matching::check_pairing(1, 0, &[], &left_out, &price, &[]) as u64,
+        fault_number(matching::check_pairing(1, 0, &[], &left_out, &price, &[])),
     )
 }
 

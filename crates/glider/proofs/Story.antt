@@ -19,8 +19,7 @@ use Rattle.matching.specs.Pairing.{none, HasReport, ValidPairing, Best, sheet_of
 use Rattle.matching.specs.Answer.{sizes_ok, cells_ok, pairing_ok, sheet_refusal}
 use Rattle.matching.proofs.Facts as facts
 use Rattle.matching.proofs.Theorems.{all_are_paired, zero_is_best}
-use Rattle.engine.specs.declared.Paired as answers
-use Rattle.engine.specs.Call.{PairsSheet}
+use Rattle.engine.specs.Call.{Paired, PairsSheet}
 use Rattle.intake.specs.Refusals.{slot_bad, report_bad, report_elsewhere, none_of, due_slots, demands, number_of, fault_of, refusal_of}
 use Rattle.scoresheet.specs.Cells.{cell_of, pair_cell, row_of, rows_of, cells_of, tracks_of, reports_of}
 use Rattle.scoresheet.specs.Call.{cell_room, sheet_by, sheet_after}
@@ -80,7 +79,7 @@ best_keeps_the_glider P b =
     (none_else (P 0) l₀ apart, e₁)
 
 -- What the pairing call writes for the scene, into lists of two, is that pairing.
-pub call_keeps_the_glider : (p' u' v' : List ℕ) (answer : answers.Paired) → PairsSheet 2 2 cells (none ∷ none ∷ []) (0 ∷ 0 ∷ []) (0 ∷ 0 ∷ []) p' u' v' answer → length p' ≡ 2 → p' ≡ kept
+pub call_keeps_the_glider : (p' u' v' : List ℕ) (answer : Paired) → PairsSheet 2 2 cells (none ∷ none ∷ []) (0 ∷ 0 ∷ []) (0 ∷ 0 ∷ []) p' u' v' answer → length p' ≡ 2 → p' ≡ kept
 unfolding sheet_refusal sizes_ok cells_ok holds each
 call_keeps_the_glider p' u' v' answer s l =
     let b = best_keeps_the_glider (at p') (zero_is_best 2 2 cells p' u' v' (s.served refl).accepted) in

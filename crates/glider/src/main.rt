@@ -190,7 +190,7 @@ fn ours() -> [u32; TRACKS]
     let mut pairing = [NONE; TRACKS];
     let mut prices = [0u32; TRACKS];
     let mut discounts = [0u32; REPORTS];
-    engine::pair_sheet(
+    let _ = engine::pair_sheet(
         TRACKS,
         REPORTS,
         &sheet,

@@ -3,10 +3,11 @@ use Prim.Native.Nat.{ℕ, ◌+◌, ◌*◌, ◌<◌}
 use mathlib.Core.Path.{◌≡◌, refl, sym, ap, ◌∙◌}
 use mathlib.Core.Bool.{Bool, true, false, cond, not, ◌||◌}
 use mathlib.Core.List.{List}
-use native.Mathlib.Nat.{lt_trans}
+use native.Mathlib.Nat.{lt_trans, le_of_eq}
 use lib.Arith.{digits_lt}
 use lib.Dec.{ltb, leb, eqb}
-use lib.ListN.{length}
+use lib.ListN.{length, take}
+use Rattle.std.proofs.lemmas.List.{get_or-take, length-take-le}
 use borrow.Author.Tests.{ltb-true, eqb-false}
 use Rattle.laws.proofs.Tests.{each_same, refuse_same, and_same}
 use Rattle.laws.proofs.Sums.{sum_same}
@@ -71,3 +72,30 @@ beyond_is_not_read n m s s' p p' u u' v v' z z' cs ps us vs =
   where
     cong₃ : {a a' t t' b b' : ℕ} → a ≡ a' → t ≡ t' → b ≡ b' → eqb a (t + b) ≡ eqb a' (t' + b')
     cong₃ e f g = rw (e, f, g)
+
+-- Lists that are cut to what n tracks and m reports need.
+module _ (n m : ℕ) (s p u v : List ℕ) (z : Fits n m s p u v) where
+  pub cut_pairing : length (take n p) ≡ n
+  cut_pairing = length-take-le n p z.pairing_long
+
+  pub cut_prices : length (take n u) ≡ n
+  cut_prices = length-take-le n u z.prices_long
+
+  pub cut_discounts : length (take m v) ≡ m
+  cut_discounts = length-take-le m v z.discounts_long
+
+  pub cut_fits : Fits n m s (take n p) (take n u) (take m v)
+  cut_fits =
+      record {
+        tracks_few = z.tracks_few;
+        reports_few = z.reports_few;
+        cells_long = z.cells_long;
+        pairing_long = le_of_eq (sym cut_pairing);
+        prices_long = le_of_eq (sym cut_prices);
+        discounts_long = le_of_eq (sym cut_discounts);
+      }
+
+  pub cut_answer : check_answer n m s (take n p) (take n u) (take m v) ≡ check_answer n m s p u v
+  cut_answer =
+      beyond_is_not_read n m s s (take n p) p (take n u) u (take m v) v cut_fits z (λ k l. refl)
+      (λ i l. get_or-take n p i 0 l) (λ i l. get_or-take n u i 0 l) (λ j l. get_or-take m v j 0 l)

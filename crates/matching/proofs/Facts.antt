@@ -8,13 +8,16 @@ use native.Mathlib.Omega.{arith}
 use native.Mathlib.Nat.{ne_of_lt, mul-zero, mod-lt, div-lt_iff_lt-mul, div-add-mod', eq-zero-or-pos, lt_trans}
 use lib.Arith.{digits_lt}
 use lib.Dec.{ltb, eqb}
-use lib.ListN.{length, get_or}
-use borrow.Author.Tests.{ltb-true, leb-true, lt-ltb, le-leb, lt-leb, ne_eqb, eqb-false, not-true}
+use lib.ListN.{length}
+use borrow.Author.Tests.{ltb-true, leb-true, lt-ltb, le-leb, ne_eqb, eqb-false, not-true}
+use Rattle.std.specs.Prelude.{Result, Ok, Err, MatchResult}
 use Rattle.laws.specs.Tests.{each, refuse}
-use Rattle.laws.proofs.Tests.{and_both, and_left, and_right, or_else, or_second, each_at, each_all, each_none, each_more, each_fails, holds_each, all_hold, refuse_none}
+use Rattle.laws.proofs.Tests.{and_both, and_left, and_right, or_else, or_second, each_at, each_all, holds_each, all_hold, refuse_none}
 use Rattle.laws.specs.Lists.{at}
+use Rattle.matching.specs.declared.Fault.{Fault}
+use Rattle.matching.specs.declared.Fault.TheVariants as fault
 use Rattle.matching.specs.Pairing.{none, score_end, left_out, most_tracks, Sheet, Admissible, InRange, HasReport, ValidPairing, FairPrices, sheet_of}
-use Rattle.matching.specs.Answer.{sizes_ok, Sizes, cell_ok, cells_ok, entry_ok, pairing_ok, numbers_ok, row_ok, scores_ok, sheet_refusal}
+use Rattle.matching.specs.Answer.{sizes_ok, Sizes, Fits, cell_ok, cells_ok, entry_ok, pairing_ok, numbers_ok, row_ok, scores_ok, totals_ok, sheet_refusal, check_answer, fault_number, check_number, answer_by}
 
 -- ---- 21
 
@@ -157,7 +160,7 @@ module _ (n m : ℕ) (s : List ℕ) (pairing prices discounts : ℕ) where
       go j k true false h = refl
       go j k true true h = absurd (h refl)
 
-  passes : sheet_refusal n m s pairing prices discounts 0 ≡ 0 → (sizes_ok n m (length s) pairing prices discounts ≡ true) × (cells_ok (n * m) s ≡ true)
+  pub passes : sheet_refusal n m s pairing prices discounts 0 ≡ 0 → (sizes_ok n m (length s) pairing prices discounts ≡ true) × (cells_ok (n * m) s ≡ true)
   unfolding sheet_refusal
   passes e =
       let a = refuse_none _ _ _ e tt in
@@ -178,15 +181,33 @@ module _ (n m : ℕ) (s : List ℕ) (pairing prices discounts : ℕ) where
   unfolding sheet_refusal
   ready_passes z r rest = rw (sizes_ok_lem n m (length s) pairing prices discounts z, cells_ok_lem n m s r)
 
--- the numbers so far are in range: none yet, one more, one that is over
-pub none_over : (f : ℕ → ℕ) → numbers_ok 0 f ≡ true
-unfolding numbers_ok
-none_over f = each_none _
+-- what is left to test where sizes and cells are in order
+pub tests_left : (n m : ℕ) (s p u v : List ℕ) → Fits n m s p u v → cells_ok (n * m) s ≡ true → check_answer n m s p u v ≡ refuse 23 (pairing_ok (sheet_of n m s) (at p)) (refuse 24 (numbers_ok n (at u) && numbers_ok m (at v)) (refuse 25 (scores_ok (sheet_of n m s) (at u) (at v)) (refuse 26 (totals_ok (sheet_of n m s) (at p) (at u) (at v)) 0)))
+unfolding check_answer sheet_refusal
+tests_left n m s p u v z e = rw (sizes_ok_lem n m (length s) (length p) (length u) (length v) z, e)
 
-pub number_within : (xs : List ℕ) (k : ℕ) → numbers_ok k (at xs) ≡ true → get_or xs k 0 ≤ left_out → numbers_ok (k + 1) (at xs) ≡ true
-unfolding numbers_ok
-number_within xs k w h = each_more _ k w (le-leb _ _ h)
+-- ---- answers by their numbers
 
-pub number_over : (xs : List ℕ) (n k : ℕ) → k < n → left_out < get_or xs k 0 → numbers_ok n (at xs) ≡ false
-unfolding numbers_ok
-number_over xs n k h o = each_fails _ k n h (lt-leb _ _ o)
+-- a fault has a number
+pub no_zero : (f : Fault) → fault_number f ≡ 0 → ⊥
+no_zero fault.Sizes e = omega arith
+no_zero fault.Cells e = omega arith
+no_zero fault.Pairing e = omega arith
+no_zero fault.Numbers e = omega arith
+no_zero fault.Scores e = omega arith
+no_zero fault.Totals e = omega arith
+
+-- the last test of a chain
+pub last_test : (r : Result (Unit {0}) Fault) (ok : Bool) (f : Fault) → MatchResult r (λ _. ok ≡ true) (λ told. (ok ≡ false) × (told ≡ f)) → check_number r ≡ refuse (fault_number f) ok 0
+last_test (Ok done) ok f h = rw h refl
+last_test (Err e) ok f h = rw (h.0, h.1) refl
+
+-- an answer is the one that stands for its number
+pub answer_back : (r : Result (Unit {0}) Fault) → answer_by (check_number r) ≡ r
+answer_back (Ok tt) = refl
+answer_back (Err fault.Sizes) = refl
+answer_back (Err fault.Cells) = refl
+answer_back (Err fault.Pairing) = refl
+answer_back (Err fault.Numbers) = refl
+answer_back (Err fault.Scores) = refl
+answer_back (Err fault.Totals) = refl

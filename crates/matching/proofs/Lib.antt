@@ -5,3 +5,4 @@ pub mod Same
 pub mod FreeReport
 pub mod Facts
 pub mod Beyond
+pub mod Walks

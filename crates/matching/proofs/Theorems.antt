@@ -1,7 +1,7 @@
 -- What the referee's word is worth. Each theorem with its plain meaning; the definitions are those of specs/. In proofs s, p, u, v are a
 -- sheet's cells, a pairing, prices and discounts; S and P the sheet and the pairing that they stand for.
 use Prim.Native.Nat.{ℕ, ◌+◌, ◌*◌, ◌≤◌, ◌<◌}
-use mathlib.Core.Path.{◌≡◌, refl, sym, ◌∙◌}
+use mathlib.Core.Path.{◌≡◌, refl, sym, ap, ◌∙◌}
 use mathlib.Core.Bool.{Bool, true, false, not, cond, ◌&&◌}
 use mathlib.Core.List.{List, [], ◌∷◌}
 use native.Mathlib.Omega.{arith}
@@ -11,8 +11,10 @@ use Rattle.laws.specs.Lists.{at, first_index}
 use Rattle.laws.specs.Tests.{refuse}
 use borrow.Author.Tests.{eq-eqb, eqb-true}
 use Rattle.laws.proofs.Tests.{refuse_none}
+use Rattle.std.specs.Prelude.{Result}
+use Rattle.matching.specs.declared.Fault.{Fault}
 use Rattle.matching.specs.Pairing.{none, Sheet, Admissible, InRange, HasReport, ValidPairing, pairs, missed_tracks, sum_of_scores, Best, Agree, Certificate, sheet_of, BestList}
-use Rattle.matching.specs.Answer.{Sizes, Fits, sizes_ok, cells_ok, pairing_ok, numbers_ok, scores_ok, totals_ok, sheet_refusal, check_answer}
+use Rattle.matching.specs.Answer.{Sizes, Fits, sizes_ok, cells_ok, pairing_ok, numbers_ok, scores_ok, totals_ok, sheet_refusal, check_answer, check_number, answer_by}
 use Rattle.matching.proofs.Duality as duality
 use Rattle.matching.proofs.Facts as facts
 -- the total measures 'most pairs, then least score': no saving in scores pays for leaving a track out
@@ -64,8 +66,8 @@ all_are_paired S P Q b q all =
 -- ---- the check's answer
 
 -- Two results that meet the check's contract are equal.
-pub one_answer : (n m : ℕ) (s p u v : List ℕ) (r r' : ℕ) → r ≡ check_answer n m s p u v → r' ≡ check_answer n m s p u v → r ≡ r'
-one_answer n m s p u v r r' e f = e ∙ sym f
+pub one_answer : (n m : ℕ) (s p u v : List ℕ) (r r' : Result (Unit {0}) Fault) → check_number r ≡ check_answer n m s p u v → check_number r' ≡ check_answer n m s p u v → r ≡ r'
+one_answer n m s p u v r r' e f = sym (facts.answer_back r) ∙ ap answer_by (e ∙ sym f) ∙ facts.answer_back r'
 
 -- A sheet is refused with neither 21 nor 22 just where the lists are long enough, by their lengths, and its cells in range.
 pub not_refused : (n m : ℕ) (s : List ℕ) (pairing prices discounts : ℕ) → sheet_refusal n m s pairing prices discounts 0 ≡ 0 → Sizes n m (length s) pairing prices discounts × InRange (sheet_of n m s)

@@ -1,9 +1,11 @@
--- 01, 'Pairing': the check's answers. Each test is a Bool, and the answer is the number of the first test that fails, or 0.
--- Entries beyond tracks, reports and tracks x reports are neither read nor judged.
-use Rattle.std.specs.Prelude.{ℕ, ◌+◌, ◌*◌, ◌≤◌, Bool, not, ◌&&◌, ◌||◌, List, [], ◌∷◌, leb, ltb, eqb, length}
+-- 01, 'Pairing': the check's answers. Each test is a Bool, and the answer is the number of the first test that fails, or 0; the code's
+-- answer is that fault, or Ok. Entries beyond tracks, reports and tracks x reports are neither read nor judged.
+use Rattle.std.specs.Prelude.{ℕ, ◌+◌, ◌*◌, ◌≤◌, Bool, cond, not, ◌&&◌, ◌||◌, List, [], ◌∷◌, leb, ltb, eqb, length, Result, Ok, Err}
 use Rattle.laws.specs.Sums.{sum}
 use Rattle.laws.specs.Tests.{each, holds, refuse}
 use Rattle.laws.specs.Lists.{at}
+use Rattle.matching.specs.declared.Fault.{Fault}
+use Rattle.matching.specs.declared.Fault.TheVariants as fault
 use Rattle.matching.specs.Pairing.{none, score_end, left_out, most_tracks, most_reports, Sheet, total, sheet_of}
 
 -- 21: few enough tracks n and reports m, and long enough lists, by their lengths
@@ -73,3 +75,30 @@ check_answer n m cells pairing prices discounts =
     (refuse 25 (scores_ok S u v)
     (refuse 26 (totals_ok S P u v)
     0))))
+
+-- ---- the code's answers, by their numbers
+
+abbrev pub fault_number : Fault → ℕ
+fault_number fault.Sizes = 21
+fault_number fault.Cells = 22
+fault_number fault.Pairing = 23
+fault_number fault.Numbers = 24
+fault_number fault.Scores = 25
+fault_number fault.Totals = 26
+
+abbrev pub check_number : Result (Unit {0}) Fault → ℕ
+check_number (Ok done) = 0
+check_number (Err f) = fault_number f
+
+-- the answer that stands for a number
+abbrev pub fault_by : ℕ → Fault
+fault_by k =
+    cond (eqb k 21) fault.Sizes
+    (cond (eqb k 22) fault.Cells
+    (cond (eqb k 23) fault.Pairing
+    (cond (eqb k 24) fault.Numbers
+    (cond (eqb k 25) fault.Scores
+    fault.Totals))))
+
+abbrev pub answer_by : ℕ → Result (Unit {0}) Fault
+answer_by k = cond (eqb k 0) (Ok tt) (Err (fault_by k))

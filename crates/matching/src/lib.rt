@@ -1,12 +1,12 @@
 // The referee: checks that a pairing of tracks with reports is best, by prices and discounts that show it. It knows of no engine.
 #![tactic(auto)]
 
-ghost use Rattle.std.specs.Prelude.{◌≡◌, true, cond, not, ◌&&◌, ◌+◌, ◌*◌, ◌≤◌, ◌<◌, ◌^◌, eqb, length, take, drop};
+ghost use Rattle.std.specs.Prelude.{◌≡◌, true, false, MatchResult, nat_le, ◌&&◌, ◌+◌, ◌*◌, ◌≤◌, ◌<◌, ◌^◌, length, take, drop};
+ghost use Rattle.std.specs.List.{list_all, fold, zip};
 ghost use Rattle.laws.specs.Sums.{sum};
-ghost use Rattle.laws.specs.Tests.{each};
 ghost use Rattle.laws.specs.Lists.{at};
 ghost use Rattle.matching.specs.Pairing.{left_out, HasReport, score_or, total, sheet_of};
-ghost use Rattle.matching.specs.Answer.{sizes_ok, Sizes, cell_ok, entry_ok, pairing_ok, numbers_ok, pair_ok, scores_ok, totals_ok, sheet_refusal, check_answer};
+ghost use Rattle.matching.specs.Answer.{sizes_ok, Sizes, cell_ok, cells_ok, entry_ok, pairing_ok, pair_ok, scores_ok, totals_ok, sheet_refusal, check_answer, check_number};
 
 // In a cell: the pair is not admissible. In a pairing: the track is left out.
 pub const NONE: u32 = 4294967295;
@@ -18,8 +18,23 @@ pub const LEFT_OUT: u32 = 268435456;
 pub const MOST_TRACKS: usize = 100;
 // and no more reports than this.
 pub const MOST_REPORTS: usize = 100;
-// The check's answer where it finds no fault.
-pub const ACCEPTED: u8 = 0;
+
+// Why a sheet is refused, or its pairing not accepted, by 01's numbers.
+#[derive(Clone, Copy, Debug, PartialEq, Eq)]
+pub enum Fault {
+    // Too many tracks or reports, or a list too short for them.
+    Sizes = 21,
+    // A cell is neither NONE nor a score.
+    Cells = 22,
+    // A track's report is not there, not admissible, or another track's too.
+    Pairing = 23,
+    // A price or a discount is above LEFT_OUT.
+    Numbers = 24,
+    // A price less a discount is above the score of an admissible pair.
+    Scores = 25,
+    // All prices less all discounts are not the pairing's total.
+    Totals = 26,
+}
 
 // A score sheet: a row a track, `reports` cells a row.
 #[derive(Clone, Copy)]
@@ -68,35 +83,28 @@ fn sizes_ok(
     reports <= discounts
 }
 
-// 1 for a cell that is neither none nor a score.
-fn stray(cell: u32) -> u32
-    ensures { result ≡ cond (cell_ok cell) 0 1 }
+// None, or a score.
+fn cell_ok(cell: u32) -> bool
+    ensures { result ≡ cell_ok cell }
 {
-    if cell == NONE {
-        return 0;
-    }
-    if cell < SCORE_END {
-        return 0;
-    }
-    1
+    cell == NONE || cell < SCORE_END
 }
 
-// How many of the first k cells are out of range. A sum with no way out of its loop is what the compiler turns into vector
-// instructions.
-fn strays(sheet: &[u32], k: usize) -> u32
-    requires { (k ≤ length sheet.now) × (k < 2 ^ 32) }
-    ensures { result ≡ sum k (λ i. cond (cell_ok (at sheet.now i)) 0 1) }
+// A fold with no way out is what the compiler turns into vector instructions.
+fn cells_ok(cells: &[u32]) -> bool
+    ensures { result ≡ cells_ok (length cells.now) cells.now }
 {
-    let mut count: u32 = 0;
-    let mut i = 0;
-    while i < k {
-        count += stray(sheet[i]);
-        i += 1;
-    }
-    count
+    cells.iter().fold(true, |ok, cell| ok & cell_ok(*cell))
 }
 
-// 21 or 22, or 0 for a sheet that can be paired and judged. The last three are the lengths of the lists beside it.
+// The fault, where a test fails.
+fn refuse_unless(ok: bool, fault: Fault) -> Result<(), Fault>
+    ensures { MatchResult result (λ _. ok ≡ true) (λ told. (ok ≡ false) × (told ≡ fault)) }
+{
+    if ok { Ok(()) } else { Err(fault) }
+}
+
+// Whether a sheet can be paired and judged. The last three are the lengths of the lists beside it.
 pub fn sheet_refusal(
     tracks: usize,
     reports: usize,
@@ -104,216 +112,152 @@ pub fn sheet_refusal(
     pairing: usize,
     prices: usize,
     discounts: usize,
-) -> u8
-    ensures { result ≡ sheet_refusal tracks reports sheet.now pairing prices discounts 0 }
+) -> Result<(), Fault>
+    ensures { check_number result ≡ sheet_refusal tracks reports sheet.now pairing prices discounts 0 }
 {
-    if !sizes_ok(tracks, reports, sheet.len(), pairing, prices, discounts) {
-        return 21;
-    }
-    if strays(sheet, tracks * reports) != 0 {
-        return 22;
-    }
-    0
+    let sizes = sizes_ok(tracks, reports, sheet.len(), pairing, prices, discounts);
+    refuse_unless(sizes, Fault::Sizes)?;
+    refuse_unless(cells_ok(&sheet[..tracks * reports]), Fault::Cells)
 }
 
-// A report or track number, as the index of a list.
+// A report or track number, as the index of a list: there is no `From` of u32 for usize.
 pub fn index(x: u32) -> usize
     ensures { result ≡ x }
 {
     x as usize
 }
 
-// Sums of scores and prices are taken in 64 bits.
-pub fn wide(x: u32) -> u64
-    ensures { (result ≡ x) × (result < 2 ^ 32) }
-{
-    x as u64
-}
-
-// No track before i has report x.
-fn fresh(pairing: &[u32], i: usize, x: u32) -> bool
-    requires { i ≤ length pairing.now }
-    ensures { result ≡ each i (λ k. not (eqb (at pairing.now k) x)) }
-{
-    let mut k = 0;
-    while k < i {
-        if pairing[k] == x {
-            return false;
-        }
-        k += 1;
-    }
-    true
-}
-
-// Track i is left out, or its report is there, the pair is admissible, and no track before i has the report. How many tracks the
+// A track is left out, or its report is there, the pair is admissible, and no track before it has the report. How many tracks the
 // sheet has does not matter to one of them, hence `sheet_of 0`.
-fn entry_ok(reports: usize, sheet: &[u32], pairing: &[u32], i: usize) -> bool
-    requires { (i < length pairing.now) × (i * reports + reports ≤ length sheet.now) }
-    ensures { result ≡ entry_ok (sheet_of 0 reports sheet.now) (at pairing.now) i }
+fn entry_ok(sheet: Sheet, pairing: &[u32], track: usize) -> bool
+    requires { (track < length pairing.now) × (track * sheet.reports + sheet.reports ≤ length sheet.cells.now) }
+    ensures { result ≡ entry_ok (sheet_of 0 sheet.entry.reports sheet.entry.cells.now) (at pairing.now) track }
 {
-    let x = pairing[i];
-    if x == NONE {
+    let report = pairing[track];
+    if report == NONE {
         return true;
     }
-    let j = index(x);
-    if j >= reports {
+    let place = index(report);
+    if place >= sheet.reports {
         return false;
     }
-    let at = i * reports + j;
-    if sheet[at] == NONE {
+    if sheet.row(track)[place] == NONE {
         return false;
     }
-    fresh(pairing, i, x)
+    !pairing[..track].contains(&report)
 }
 
-fn pairing_ok(tracks: usize, reports: usize, sheet: &[u32], pairing: &[u32]) -> bool
-    requires { (tracks * reports ≤ length sheet.now) × (tracks ≤ length pairing.now) }
-    ensures { result ≡ pairing_ok (sheet_of tracks reports sheet.now) (at pairing.now) }
+fn pairing_ok(sheet: Sheet, pairing: &[u32]) -> bool
+    requires { length pairing.now * sheet.reports ≤ length sheet.cells.now }
+    ensures { result ≡ pairing_ok (sheet_of (length pairing.now) sheet.entry.reports sheet.entry.cells.now) (at pairing.now) }
 {
-    let mut i = 0;
-    while i < tracks {
-        if !entry_ok(reports, sheet, pairing, i) {
+    for track in 0..pairing.len() {
+        if !entry_ok(sheet, pairing, track) {
             return false;
         }
-        i += 1;
     }
     true
 }
 
-// Each of the first n prices, or discounts, is in range.
-#[tactic(auto, using(crate::proofs::Facts::none_over, crate::proofs::Facts::number_within, crate::proofs::Facts::number_over))]
-fn numbers_ok(n: usize, numbers: &[u32]) -> bool
-    requires { n ≤ length numbers.now }
-    ensures { result ≡ numbers_ok n (at numbers.now) }
+// Each price, or discount, is in range.
+fn numbers_ok(numbers: &[u32]) -> bool
+    ensures { result ≡ list_all (λ x. nat_le x left_out) numbers.now }
 {
-    let mut i = 0;
-    while i < n {
-        if numbers[i] > LEFT_OUT {
-            return false;
-        }
-        i += 1;
-    }
-    true
+    numbers.iter().all(|x| *x <= LEFT_OUT)
 }
 
-// All prices and all discounts are in range.
-fn all_numbers_ok(tracks: usize, reports: usize, prices: &[u32], discounts: &[u32]) -> bool
-    requires { (tracks ≤ length prices.now) × (reports ≤ length discounts.now) }
-    ensures { result ≡ (numbers_ok tracks (at prices.now) && numbers_ok reports (at discounts.now)) }
-{
-    if !numbers_ok(tracks, prices) {
-        return false;
-    }
-    numbers_ok(reports, discounts)
-}
-
-// The pair is not admissible, or the price less the discount is not above its score.
-fn pair_ok(price: u64, score: u32, discount: u32) -> bool
+// The pair is not admissible, or the price less the discount is not above its score. A sum past 32 bits is above every price; `|`
+// has no branch, so that a row goes by vectors.
+fn pair_ok(price: u32, score: u32, discount: u32) -> bool
     ensures { result ≡ pair_ok price score discount }
 {
-    if score == NONE {
-        return true;
-    }
-    price <= wide(score) + wide(discount)
+    (score == NONE) | (price <= score.saturating_add(discount))
 }
 
-// The pairs of the row that begins at base.
-fn row_ok(reports: usize, sheet: &[u32], base: usize, price: u64, discounts: &[u32]) -> bool
-    requires { (base + reports ≤ length sheet.now) × (reports ≤ length discounts.now) }
-    ensures { result ≡ each reports (λ j. pair_ok price (at sheet.now (base + j)) (at discounts.now j)) }
+// The pairs of a track.
+fn row_ok(price: u32, scores: &[u32], discounts: &[u32]) -> bool
+    ensures { result ≡ fold (λ ok pair. ok && pair_ok price pair.0 pair.1) true (zip scores.now discounts.now) }
 {
-    let mut j = 0;
-    while j < reports {
-        if !pair_ok(price, sheet[base + j], discounts[j]) {
+    scores
+        .iter()
+        .zip(discounts)
+        .fold(true, |ok, (score, discount)| {
+            ok & pair_ok(price, *score, *discount)
+        })
+}
+
+fn scores_ok(sheet: Sheet, prices: &[u32], discounts: &[u32]) -> bool
+    requires { (length prices.now * sheet.reports ≤ length sheet.cells.now) × (length discounts.now ≡ sheet.reports) }
+    ensures { result ≡ scores_ok (sheet_of (length prices.now) sheet.entry.reports sheet.entry.cells.now) (at prices.now) (at discounts.now) }
+{
+    for (track, price) in prices.iter().enumerate() {
+        if !row_ok(*price, sheet.row(track), discounts) {
             return false;
         }
-        j += 1;
     }
     true
 }
 
-fn scores_ok(
-    tracks: usize,
-    reports: usize,
-    sheet: &[u32],
-    prices: &[u32],
-    discounts: &[u32],
-) -> bool
-    requires { (tracks * reports ≤ length sheet.now) × ((tracks ≤ length prices.now) × (reports ≤ length discounts.now)) }
-    ensures { result ≡ scores_ok (sheet_of tracks reports sheet.now) (at prices.now) (at discounts.now) }
+// All prices, or discounts, together. Each is below 2^32, so that 64 bits hold the sum.
+fn sum_of(numbers: &[u32]) -> u64
+    requires { length numbers.now ≤ 2 ^ 31 }
+    ensures { (result ≡ sum (length numbers.now) (at numbers.now)) × (result ≤ length numbers.now * 2 ^ 32) }
 {
-    let mut i = 0;
-    while i < tracks {
-        let price = wide(prices[i]);
-        if !row_ok(reports, sheet, i * reports, price, discounts) {
-            return false;
-        }
-        i += 1;
-    }
-    true
+    numbers.iter().map(|x| u64::from(*x)).sum()
 }
 
-// The first n prices, or discounts, together. Each is below 2^32, so that 64 bits hold the sum.
-fn sum_of(n: usize, numbers: &[u32]) -> u64
-    requires { (n ≤ 2 ^ 31) × (n ≤ length numbers.now) }
-    ensures { (result ≡ sum n (at numbers.now)) × (result ≤ n * 2 ^ 32) }
+// What a track counts in the total: its score, or LEFT_OUT.
+fn counted(sheet: Sheet, pairing: &[u32], track: usize) -> u64
+    requires { (track < length pairing.now) × ((track * sheet.reports + sheet.reports ≤ length sheet.cells.now) × (HasReport (at pairing.now) track → at pairing.now track < sheet.reports)) }
+    ensures { (result ≡ score_or left_out (sheet_of 0 sheet.entry.reports sheet.entry.cells.now) (at pairing.now) track) × (result < 2 ^ 32) }
 {
-    let mut sum: u64 = 0;
-    let mut i = 0;
-    while i < n {
-        sum += wide(numbers[i]);
-        i += 1;
+    let report = pairing[track];
+    if report == NONE {
+        return u64::from(LEFT_OUT);
     }
-    sum
-}
-
-// What track i counts in the total: its score, or LEFT_OUT.
-fn counted(reports: usize, sheet: &[u32], pairing: &[u32], i: usize) -> u64
-    requires { (i < length pairing.now) × ((i * reports + reports ≤ length sheet.now) × (HasReport (at pairing.now) i → at pairing.now i < reports)) }
-    ensures { (result ≡ score_or left_out (sheet_of 0 reports sheet.now) (at pairing.now) i) × (result < 2 ^ 32) }
-{
-    let x = pairing[i];
-    if x == NONE {
-        return wide(LEFT_OUT);
-    }
-    let at = i * reports + index(x);
-    wide(sheet[at])
+    u64::from(sheet.row(track)[index(report)])
 }
 
 // The total of a valid pairing.
-fn total_of(tracks: usize, reports: usize, sheet: &[u32], pairing: &[u32]) -> u64
-    requires { (tracks ≤ 2 ^ 31) × ((tracks * reports ≤ length sheet.now) × ((tracks ≤ length pairing.now) × (pairing_ok (sheet_of tracks reports sheet.now) (at pairing.now) ≡ true))) }
-    ensures { (result ≡ total (sheet_of tracks reports sheet.now) (at pairing.now)) × (result ≤ tracks * 2 ^ 32) }
+fn total_of(sheet: Sheet, pairing: &[u32]) -> u64
+    requires { (length pairing.now ≤ 2 ^ 31) × ((length pairing.now * sheet.reports ≤ length sheet.cells.now) × (pairing_ok (sheet_of (length pairing.now) sheet.reports sheet.cells.now) (at pairing.now) ≡ true)) }
+    ensures { (result ≡ total (sheet_of (length pairing.now) sheet.entry.reports sheet.entry.cells.now) (at pairing.now)) × (result ≤ length pairing.now * 2 ^ 32) }
 {
     let mut sum: u64 = 0;
-    let mut i = 0;
-    while i < tracks {
-        sum += counted(reports, sheet, pairing, i);
-        i += 1;
+    for track in 0..pairing.len() {
+        sum += counted(sheet, pairing, track);
     }
     sum
 }
 
 // All prices are the total and all discounts.
-fn totals_ok(
-    tracks: usize,
-    reports: usize,
-    sheet: &[u32],
-    pairing: &[u32],
-    prices: &[u32],
-    discounts: &[u32],
-) -> bool
-    requires sizes { Sizes tracks reports (length sheet.now) (length pairing.now) (length prices.now) (length discounts.now) }
-    requires pairing_good { pairing_ok (sheet_of tracks reports sheet.now) (at pairing.now) ≡ true }
-    ensures { result ≡ totals_ok (sheet_of tracks reports sheet.now) (at pairing.now) (at prices.now) (at discounts.now) }
+fn totals_ok(sheet: Sheet, pairing: &[u32], prices: &[u32], discounts: &[u32]) -> bool
+    requires sizes { Sizes (length pairing.now) sheet.reports (length sheet.cells.now) (length pairing.now) (length prices.now) (length discounts.now) }
+    requires exact { (length prices.now ≡ length pairing.now) × (length discounts.now ≡ sheet.reports) }
+    requires pairing_good { pairing_ok (sheet_of (length pairing.now) sheet.reports sheet.cells.now) (at pairing.now) ≡ true }
+    ensures { result ≡ totals_ok (sheet_of (length pairing.now) sheet.entry.reports sheet.entry.cells.now) (at pairing.now) (at prices.now) (at discounts.now) }
 {
-    let paid = sum_of(tracks, prices);
-    let total = total_of(tracks, reports, sheet, pairing);
-    let off = sum_of(reports, discounts);
+    let paid = sum_of(prices);
+    let total = total_of(sheet, pairing);
+    let off = sum_of(discounts);
     paid == total + off
 }
 
-// 0 where prices and discounts show that the pairing is best; else 21 to 26, the first fault in 01's order. It writes nothing.
+// What is tested once sizes and cells are in order, and the lists just long enough.
+fn judge(sheet: Sheet, pairing: &[u32], prices: &[u32], discounts: &[u32]) -> Result<(), Fault>
+    requires sizes { Sizes (length pairing.now) sheet.reports (length sheet.cells.now) (length pairing.now) (length prices.now) (length discounts.now) }
+    requires exact { (length prices.now ≡ length pairing.now) × (length discounts.now ≡ sheet.reports) }
+    requires tested { cells_ok (length pairing.now * sheet.reports) sheet.cells.now ≡ true }
+    ensures { check_number result ≡ check_answer (length pairing.now) sheet.entry.reports sheet.entry.cells.now pairing.now prices.now discounts.now }
+{
+    refuse_unless(pairing_ok(sheet, pairing), Fault::Pairing)?;
+    refuse_unless(numbers_ok(prices), Fault::Numbers)?;
+    refuse_unless(numbers_ok(discounts), Fault::Numbers)?;
+    refuse_unless(scores_ok(sheet, prices, discounts), Fault::Scores)?;
+    refuse_unless(totals_ok(sheet, pairing, prices, discounts), Fault::Totals)
+}
+
+// Whether prices and discounts show that the pairing is best; else the first fault in 01's order. It writes nothing.
 pub fn check_pairing(
     tracks: usize,
     reports: usize,
@@ -321,31 +265,24 @@ pub fn check_pairing(
     pairing: &[u32],
     prices: &[u32],
     discounts: &[u32],
-) -> u8
-    ensures { result ≡ check_answer tracks reports sheet.now pairing.now prices.now discounts.now }
+) -> Result<(), Fault>
+    ensures { check_number result ≡ check_answer tracks reports sheet.now pairing.now prices.now discounts.now }
 {
-    let refused = sheet_refusal(
+    sheet_refusal(
         tracks,
         reports,
         sheet,
         pairing.len(),
         prices.len(),
         discounts.len(),
-    );
-    if refused != 0 {
-        return refused;
-    }
-    if !pairing_ok(tracks, reports, sheet, pairing) {
-        return 23;
-    }
-    if !all_numbers_ok(tracks, reports, prices, discounts) {
-        return 24;
-    }
-    if !scores_ok(tracks, reports, sheet, prices, discounts) {
-        return 25;
-    }
-    if !totals_ok(tracks, reports, sheet, pairing, prices, discounts) {
-        return 26;
-    }
-    ACCEPTED
+    )?;
+    judge(
+        Sheet {
+            cells: sheet,
+            reports,
+        },
+        &pairing[..tracks],
+        &prices[..tracks],
+        &discounts[..reports],
+    )
 }

@@ -6,7 +6,6 @@ use mathlib.Core.Logic.{⊎_elim}
 use lib.ListN.{take, drop, take-append-drop}
 use Rattle.laws.proofs.Stores.{same_or}
 use Rattle.matching.specs.Answer.{check_answer}
-use Rattle.matching.proofs.Theorems as check
 use Rattle.engine.specs.Call.{pairing_refusal}
 use Rattle.engine.proofs.Theorems.{same_call}
 use Rattle.intake.specs.Refusals.{Input}
@@ -52,4 +51,4 @@ one_pairing {n} {m} {cells} {p} {u} {v} {p₁} {u₁} {v₁} {p₂} {u₂} {v₂
 
 -- plot_check_pairing: nothing is left open.
 pub one_check : (n m : ℕ) (cells p u v : List ℕ) {r₁ r₂ : ℕ} → r₁ ≡ check_answer n m cells p u v → r₂ ≡ check_answer n m cells p u v → r₁ ≡ r₂
-one_check n m cells p u v R Q = check.one_answer n m cells p u v _ _ R Q
+one_check n m cells p u v R Q = R ∙ sym Q

@@ -14,10 +14,7 @@ use Rattle.scoresheet.specs.declared.Sheeted.{Sheeted}
 use Rattle.scoresheet.specs.declared.Sheeted.TheVariants as sheeted
 use Rattle.scoresheet.specs.Cells.{tracks_of, reports_of}
 use Rattle.scoresheet.specs.Call.{cell_room, sheeted_by, sheeted_of, sheet_after}
-use Rattle.engine.specs.declared.Paired.{Paired}
-use Rattle.engine.specs.declared.Paired.TheVariants as paired
-use Rattle.engine.specs.Call.{PairsSheet}
-use Rattle.plotunit.specs.Calls.{served_number, served_counts, ServesForC, sheeted_number, sheeted_size, ScoresForC, paired_number, PairsForC}
+use Rattle.plotunit.specs.Calls.{served_number, served_counts, ServesForC, sheeted_number, sheeted_size, ScoresForC}
 
 -- ---- the sector call
 
@@ -66,13 +63,3 @@ pub sheet_done : {i : Input} {sheet sheet' size : List ℕ} {a : Sheeted} {n m :
 unfolding sheeted_number sheeted_size
 sheet_done {size = size} p f e =
     record { numbered = ap sheeted_number (sym e ∙ p); filled = f; sized = ap (λ (b : Sheeted). sheeted_size b size) (sym e ∙ p) }
-
--- ---- the pairing of any sheet
-
-pub pair_refused : {n m : ℕ} {cells p u v p' u' v' : List ℕ} {a : Paired} {k : ℕ} → PairsSheet n m cells p u v p' u' v' a → a ≡ paired.Refused k → PairsForC n m cells p u v p' u' v' k
-unfolding paired_number
-pair_refused {a = a} q e = record { answer = a; promised = q; numbered = ap paired_number (sym e) }
-
-pub pair_done : {n m : ℕ} {cells p u v p' u' v' : List ℕ} {a : Paired} → PairsSheet n m cells p u v p' u' v' a → a ≡ paired.Done → PairsForC n m cells p u v p' u' v' 0
-unfolding paired_number
-pair_done {a = a} q e = record { answer = a; promised = q; numbered = ap paired_number (sym e) }

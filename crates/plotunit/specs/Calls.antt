@@ -9,9 +9,8 @@ use Rattle.sector.specs.Serve.{Lent, ServesSector, count_list}
 use Rattle.scoresheet.specs.declared.Sheeted.{Sheeted}
 use Rattle.scoresheet.specs.declared.Sheeted.TheVariants as sheeted
 use Rattle.scoresheet.specs.Call.{sheeted_of, sheet_after}
-use Rattle.engine.specs.declared.Paired.{Paired}
-use Rattle.engine.specs.declared.Paired.TheVariants as paired
-use Rattle.engine.specs.Call.{PairsSheet}
+use Rattle.matching.specs.Answer.{check_number}
+use Rattle.engine.specs.Call.{Paired, PairsSheet}
 
 -- the site sheet, from its two bytes
 abbrev pub site_from : (range_sigma azimuth_sigma : ℕ) → Site
@@ -54,9 +53,8 @@ pub record ScoresForC (i : Input) (sheet sheet' size size' : List ℕ) (number :
 
 -- ---- the pairing of any sheet
 
-unfoldable pub paired_number : Paired → ℕ
-paired_number (paired.Refused k) = k
-paired_number paired.Done = 0
+abbrev pub paired_number : Paired → ℕ
+paired_number = check_number
 
 -- p, u, v are the pairing, prices and discounts before the call, p', u', v' after it
 pub record PairsForC (n m : ℕ) (cells p u v p' u' v' : List ℕ) (number : ℕ) : Type 0 where

@@ -5,10 +5,10 @@
 ghost use Rattle.std.specs.Prelude.{◌≡◌};
 ghost use Rattle.intake.specs.Refusals.{input};
 ghost use Rattle.sector.specs.Serve.{lent, count_list};
-ghost use Rattle.matching.specs.Answer.{check_answer};
+ghost use Rattle.matching.specs.Answer.{check_answer, check_number};
 ghost use Rattle.plotunit.specs.Calls.{site_from, ServesForC, ScoresForC, PairsForC};
 
-use engine::Paired;
+use matching::Fault;
 use records::Site;
 use scoresheet::Sheeted;
 use sector::{Counts, Served};
@@ -92,6 +92,16 @@ pub extern "C" fn plot_score_sheet(
     }
 }
 
+// A fault by its number, for C.
+fn told(answer: Result<(), Fault>) -> u8
+    ensures { result ≡ check_number answer }
+{
+    match answer {
+        Ok(()) => SERVED,
+        Err(fault) => fault as u8,
+    }
+}
+
 #[unsafe(no_mangle)]
 pub extern "C" fn plot_pair_sheet(
     tracks: usize,
@@ -105,10 +115,7 @@ pub extern "C" fn plot_pair_sheet(
         pairing.new prices.new discounts.new result }
 {
     let answer = engine::pair_sheet(tracks, reports, sheet, pairing, prices, discounts);
-    match answer {
-        Paired::Refused(number) => number,
-        Paired::Done => SERVED,
-    }
+    told(answer)
 }
 
 #[unsafe(no_mangle)]
@@ -122,5 +129,6 @@ pub extern "C" fn plot_check_pairing(
 ) -> u8
     ensures { result ≡ check_answer tracks reports sheet.now pairing.now prices.now discounts.now }
 {
-    matching::check_pairing(tracks, reports, sheet, pairing, prices, discounts)
+    let answer = matching::check_pairing(tracks, reports, sheet, pairing, prices, discounts);
+    told(answer)
 }

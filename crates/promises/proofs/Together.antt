@@ -14,8 +14,7 @@ use Rattle.laws.specs.Lists.{at}
 use Rattle.matching.specs.Pairing.{InRange, Alike, sheet_of}
 use Rattle.matching.specs.Answer.{Fits, check_answer}
 use Rattle.matching.proofs.Theorems.{zero_certificate, ready_is_not_refused, beyond_is_not_read}
-use Rattle.engine.specs.declared.Paired.{Paired}
-use Rattle.engine.specs.declared.Paired.TheVariants as paired_call
+use Rattle.std.specs.Prelude.{Ok}
 use Rattle.engine.specs.Call as pairing
 use Rattle.intake.specs.Refusals.{Input, fault_of, refusal_of, Ready, no_room}
 use Rattle.intake.proofs.Readiness.{ready, not_refused, refused_by_fault, refused_by_room}
@@ -144,16 +143,14 @@ module _ (i : Input) (rest : List ℕ) (r : Ready i) (p u v : List ℕ) (room : 
       front_long xs more e = rw length-append (omega arith)
 
   -- so it is done, and what it wrote is a choice
-  call_is_done : {p' u' v' : List ℕ} {a : Paired} → pairing.PairsSheet (tracks_of i) (reports_of i) (cells_of i ++ rest) p u v p' u' v' a → Together i p' u' v' a
-  unfolding pairing.paired_by
+  call_is_done : {p' u' v' : List ℕ} {a : pairing.Paired} → pairing.PairsSheet (tracks_of i) (reports_of i) (cells_of i ++ rest) p u v p' u' v' a → Together i p' u' v' a
   call_is_done {p'} {u'} {v'} R = record {
     done = R.answered ∙ ap pairing.paired_by (own_sheet_is_not_refused i rest r p u v room);
     choice = written_is_a_choice p' u' v' (R.served (own_sheet_is_not_refused i rest r p u v room));
   }
 
   -- and any choice is what it may write
-  call_may_write : (c : Chosen) → Choice i c → pairing.PairsSheet (tracks_of i) (reports_of i) (cells_of i ++ rest) p u v (c.pairing ++ drop (tracks_of i) p) (c.prices ++ drop (tracks_of i) u) (c.discounts ++ drop (reports_of i) v) paired_call.Done
-  unfolding pairing.paired_by
+  call_may_write : (c : Chosen) → Choice i c → pairing.PairsSheet (tracks_of i) (reports_of i) (cells_of i ++ rest) p u v (c.pairing ++ drop (tracks_of i) p) (c.prices ++ drop (tracks_of i) u) (c.discounts ++ drop (reports_of i) v) (Ok tt)
   call_may_write c h =
       let z = own_sheet_is_not_refused i rest r p u v room in
       record { answered = sym (ap pairing.paired_by z); refused = λ d. absurd (d z); served = λ e. choice_may_be_written c h }
@@ -171,17 +168,17 @@ sector_call_may_answer_so i l c e h = record {
 
 module _ (i : Input) (sheet p u v : List ℕ) (n m : ℕ) (e : sheeted_of i sheet ≡ sheet_call.Sheet n m) (room : RoomToPair i p u v) where
   -- Where the sheet call gives a sheet, the pairing call on it is done, and what it writes is a choice that the sector call may make.
-  pub two_calls_give_a_choice : {p' u' v' : List ℕ} {a : Paired} → pairing.PairsSheet n m (sheet_after i sheet) p u v p' u' v' a → Together i p' u' v' a
+  pub two_calls_give_a_choice : {p' u' v' : List ℕ} {a : pairing.Paired} → pairing.PairsSheet n m (sheet_after i sheet) p u v p' u' v' a → Together i p' u' v' a
   two_calls_give_a_choice R =
       let g = given i sheet n m e in
       call_is_done i _ g.is_ready p u v room (rw (g.cells, ← g.tracks, ← g.reports) at R)
 
   -- So a sector call gives what these two give together: it may answer with exactly that pairing and those numbers.
-  pub sector_call_gives_both : {p' u' v' : List ℕ} {a : Paired} → pairing.PairsSheet n m (sheet_after i sheet) p u v p' u' v' a → (l : Lent) → sector_refusal i l ≡ 0 → ServesSector i l (after_of i l (first_of i p' u' v')) (Done (counts_of i (take (tracks_of i) p')))
+  pub sector_call_gives_both : {p' u' v' : List ℕ} {a : pairing.Paired} → pairing.PairsSheet n m (sheet_after i sheet) p u v p' u' v' a → (l : Lent) → sector_refusal i l ≡ 0 → ServesSector i l (after_of i l (first_of i p' u' v')) (Done (counts_of i (take (tracks_of i) p')))
   sector_call_gives_both {p'} {u'} {v'} R l z = sector_call_may_answer_so i l (first_of i p' u' v') z (two_calls_give_a_choice R).choice
 
   -- And whatever choice a sector call makes, the pairing call may write on that sheet.
-  pub choice_is_what_two_calls_give : (c : Chosen) → Choice i c → pairing.PairsSheet n m (sheet_after i sheet) p u v (c.pairing ++ drop n p) (c.prices ++ drop n u) (c.discounts ++ drop m v) paired_call.Done
+  pub choice_is_what_two_calls_give : (c : Chosen) → Choice i c → pairing.PairsSheet n m (sheet_after i sheet) p u v (c.pairing ++ drop n p) (c.prices ++ drop n u) (c.discounts ++ drop m v) (Ok tt)
   choice_is_what_two_calls_give c h =
       let g = given i sheet n m e in
       rw (g.cells, ← g.tracks, ← g.reports) (call_may_write i _ g.is_ready p u v room c h)

@@ -1,11 +1,10 @@
 -- What a call and its answer say: of one report, of one due track, of all of them; P is the pairing.
-use Rattle.std.specs.Prelude.{ℕ, ◌+◌, ◌-◌, ◌≤◌, ◌<◌, ◌≡◌, true, ◌⊎◌, List, [], length, get_or, take}
+use Rattle.std.specs.Prelude.{ℕ, ◌+◌, ◌-◌, ◌≤◌, ◌<◌, ◌≡◌, true, ◌⊎◌, List, [], length, get_or, take, Ok}
 use Rattle.laws.specs.Lists.{at, count}
 use Rattle.records.specs.Bytes.{bytes_of, report_of, is_held, is_free}
 use Rattle.settling.specs.Settle.{updated_of, started_of}
 use Rattle.matching.specs.Pairing.{pairs, sum_of_scores, Agree}
-use Rattle.engine.specs.declared.Paired.{Paired}
-use Rattle.engine.specs.declared.Paired.TheVariants as paired_call
+use Rattle.engine.specs.Call.{Paired}
 use Rattle.intake.specs.Refusals.{Input}
 use Rattle.scoresheet.specs.declared.Sheeted.{Sheeted}
 use Rattle.scoresheet.specs.declared.Sheeted.TheVariants as sheet_call
@@ -118,7 +117,7 @@ pub record RoomToPair (i : Input) (pairing prices discounts : List ℕ) : Type 0
 
 -- the pairing call is done, and a sector call may choose what it wrote
 pub record Together (i : Input) (pairing' prices' discounts' : List ℕ) (answer : Paired) : Type 0 where
-  pub done : answer ≡ paired_call.Done
+  pub done : answer ≡ Ok tt
   pub choice : Choice i (first_of i pairing' prices' discounts')
 
 -- a sector call and a sheet call are refused by the same numbers of 1 to 8

@@ -6,8 +6,7 @@ use native.Mathlib.Nat.{le_of_eq, le_refl}
 use lib.ListN.{length, drop}
 use Rattle.matching.specs.Answer.{Sizes, sheet_refusal}
 use Rattle.matching.proofs.Theorems.{ready_is_not_refused, zero_certificate}
-use Rattle.engine.specs.declared.Paired.{Paired}
-use Rattle.engine.specs.Call.{SheetPaired, PairsSheet}
+use Rattle.engine.specs.Call.{Paired, SheetPaired, PairsSheet}
 use Rattle.intake.specs.Refusals.{Input, Ready}
 use Rattle.scoresheet.specs.Cells.{cells_of, tracks_of, reports_of, sector_sheet}
 use Rattle.scoresheet.specs.Ready.{RowsReady}

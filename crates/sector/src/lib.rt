@@ -134,7 +134,8 @@ fn pair_up(
     ensures { PairedOff (input table.now sector site batch.now) due.now sheet.new pairing.new track_prices.new discounts.old discounts.new }
 {
     scoresheet::fill_rows(table, sector, site, batch, due, sheet);
-    engine::pair_sheet(
+    // The sheet is not refused: its sizes and cells are the sector's.
+    let _ = engine::pair_sheet(
         due.len(),
         batch.len(),
         sheet,

@@ -5,7 +5,7 @@
 ghost use Rattle.std.specs.Prelude.{◌≡◌, ◌+◌, ◌-◌, ◌*◌, ◌^◌, ◌<◌, ◌≤◌, length};
 ghost use Rattle.matching.specs.Pairing.{most_tracks, most_reports};
 
-use matching::{ACCEPTED, LEFT_OUT, MOST_REPORTS, MOST_TRACKS, NONE, SCORE_END, index, wide};
+use matching::{LEFT_OUT, MOST_REPORTS, MOST_TRACKS, NONE, SCORE_END, index};
 use std::io;
 
 const SIZES: usize = 6;
@@ -126,7 +126,7 @@ fn least_total(sheet: &[u32], tracks: usize, reports: usize, i: usize, j: usize,
         return 0;
     }
     if j >= reports {
-        return wide(LEFT_OUT) + least_total(sheet, tracks, reports, i + 1, 0, taken);
+        return u64::from(LEFT_OUT) + least_total(sheet, tracks, reports, i + 1, 0, taken);
     }
     let without = least_total(sheet, tracks, reports, i, j + 1, taken);
     let cell = sheet[i * reports + j];
@@ -135,13 +135,17 @@ fn least_total(sheet: &[u32], tracks: usize, reports: usize, i: usize, j: usize,
     }
     least(
         without,
-        wide(cell) + least_total(sheet, tracks, reports, i + 1, 0, taken | bit(j)),
+        u64::from(cell) + least_total(sheet, tracks, reports, i + 1, 0, taken | bit(j)),
     )
 }
 
 // The score of a track's pair, and 0 for a report that is not there.
 fn score_at(sheet: &[u32], at: usize) -> u64 {
-    if at < sheet.len() { wide(sheet[at]) } else { 0 }
+    if at < sheet.len() {
+        u64::from(sheet[at])
+    } else {
+        0
+    }
 }
 
 // One track more: its pair, if it has one.
@@ -185,7 +189,7 @@ fn judge(
     tracks: usize,
     reports: usize,
     pairing: &[u32],
-    verdict: u8,
+    accepted: bool,
     small: bool,
     before: Tally,
 ) -> Tally
@@ -202,7 +206,7 @@ fn judge(
     }
     Tally {
         sheets: std::num::wrapping_add_u64(before.sheets, 1),
-        accepted: std::num::wrapping_add_u64(before.accepted, one_if(verdict == ACCEPTED)),
+        accepted: std::num::wrapping_add_u64(before.accepted, one_if(accepted)),
         agreed: std::num::wrapping_add_u64(before.agreed, agreed),
         pairs: std::num::wrapping_add_u64(before.pairs, pairs),
         scores: std::num::wrapping_add_u64(before.scores, scores),
@@ -225,9 +229,17 @@ fn settle(
     requires { (tracks ≤ most_tracks) × ((reports ≤ most_reports) × ((most_tracks * most_reports ≤ length cells.old) × (most_tracks ≤ length pairing.old))) }
 {
     fill_sheet(family, reports, seed, cells);
-    engine::pair_sheet(tracks, reports, cells, pairing, prices, discounts);
+    let _ = engine::pair_sheet(tracks, reports, cells, pairing, prices, discounts);
     let verdict = matching::check_pairing(tracks, reports, cells, pairing, prices, discounts);
-    judge(cells, tracks, reports, pairing, verdict, small, before)
+    judge(
+        cells,
+        tracks,
+        reports,
+        pairing,
+        verdict.is_ok(),
+        small,
+        before,
+    )
 }
 
 fn run(family: u32, tracks: usize, reports: usize, seed: u64, small: bool, before: Tally) -> Tally

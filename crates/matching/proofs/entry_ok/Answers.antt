@@ -1,30 +1,16 @@
-use Prim.Native.Nat.{ℕ, ◌≤◌, ◌<◌}
+use Prim.Native.Nat.{ℕ, ◌<◌, ◌+◌, ◌*◌}
+use mathlib.Core.Path.{◌≡◌}
 use native.Mathlib.Omega.{arith}
-use borrow.Author.Tests.{lt-ltb, le-ltb, ne_eqb, eq-eqb}
+use borrow.Author.Tests.{lt-ltb, ne_eqb}
 use Rattle.laws.specs.Lists.{at}
 use Rattle.matching.specs.Pairing.{none}
+use Rattle.matching.proofs.Walks.{none_each, row_at}
 use Rattle.matching.proofs.entry_ok.Goals as goal
-
-pub returns-then-x : goal.returns-then-x
-returns-then-x c = rw (eq-eqb _ _ c.if-x.true)
-
-pub returns-then-j-reports : goal.returns-then-j-reports
-returns-then-j-reports c =
-    let given = c.args in
-    let x : ℕ = at given.pairing.now given.i in
-    let h : given.reports ≤ x = omega arith in
-    rw (ne_eqb x none c.if-x.false, le-ltb x given.reports h)
-
-pub returns-then-sheet-at : goal.returns-then-sheet-at
-returns-then-sheet-at c =
-    let given = c.args in
-    let x : ℕ = at given.pairing.now given.i in
-    let h : x < given.reports = omega arith in
-    rw (ne_eqb x none c.if-x.false, lt-ltb x given.reports h, eq-eqb _ none (rw c.index-j.ensures at c.if-sheet-at.true))
 
 pub returns : goal.returns
 returns c =
     let given = c.args in
-    let x : ℕ = at given.pairing.now given.i in
-    let h : x < given.reports = omega arith in
-    rw (ne_eqb x none c.if-x.false, lt-ltb x given.reports h, ne_eqb _ none (rw c.index-j.ensures at c.if-sheet-at.false), c.fresh.ensures)
+    let x : ℕ = at given.pairing.now given.track in
+    let h : x < given.sheet.reports = omega arith in
+    let cell : at given.sheet.cells.now (given.track * given.sheet.reports + x) ≡ none → ⊥ = rw (c.row.ensures, c.index-place.ensures, row_at given.sheet.reports given.track x given.sheet.cells.now h) at c.if-row-place.false in
+    rw (ne_eqb x none c.if-report.false, lt-ltb x given.sheet.reports h, ne_eqb _ none cell, c.contains.ensures.value) (none_each x given.track given.pairing.now (omega arith))

@@ -1,6 +1,4 @@
 use mathlib.Core.Bool.{and-true}
-use native.Mathlib.Omega.{arith}
-use native.Mathlib.Nat.{mul-le-mul}
 use borrow.Author.Tests.{le-leb, lt-leb}
 use Rattle.laws.specs.Tests.{holds}
 use Rattle.matching.specs.Answer.{sizes_ok}
@@ -13,9 +11,6 @@ returns-then-tracks-gt-MOST_TRACKS c = rw (lt-leb _ _ c.if-tracks-gt-MOST_TRACKS
 pub returns-then-reports-gt-MOST_REPORTS : goal.returns-then-reports-gt-MOST_REPORTS
 unfolding sizes_ok holds
 returns-then-reports-gt-MOST_REPORTS c = rw (le-leb _ _ c.if-tracks-gt-MOST_TRACKS.false, lt-leb _ _ c.if-reports-gt-MOST_REPORTS.true)
-
-pub overflow_mul-tracks : goal.overflow_mul-tracks
-overflow_mul-tracks c = omega (arith, mul-le-mul c.if-tracks-gt-MOST_TRACKS.false c.if-reports-gt-MOST_REPORTS.false)
 
 pub returns-then-tracks-reports : goal.returns-then-tracks-reports
 unfolding sizes_ok holds

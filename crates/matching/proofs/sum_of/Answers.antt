@@ -1,13 +1,13 @@
-use native.Mathlib.Omega.{arith}
 use borrow.Author.Rules.{rules}
-use Rattle.laws.proofs.Sums.{sum_none, sum_more, sum_done}
+use mathlib.Core.Path.{◌≡◌, ◌∙◌}
+use native.Mathlib.Omega.{arith}
+use lib.ListN.{length}
+use Rattle.std.specs.List.{sum_by}
+use Rattle.laws.specs.Sums.{sum}
+use Rattle.laws.proofs.Sums.{sum_under}
+use Rattle.laws.specs.Lists.{at}
+use Rattle.matching.proofs.Walks.{list_sum}
 use Rattle.matching.proofs.sum_of.Goals as goal
 
-pub loop-i-init : goal.loop-i-init
-loop-i-init c = (search rules, (sum_none _, search rules))
-
-pub loop-i-preserved : goal.loop-i-preserved
-loop-i-preserved c = (search rules, (sum_more _ _ _ _ c.loop-i.invariant.1.0 c.wide-sum.ensures.0, omega arith))
-
 pub returns : goal.returns
-returns c = (sum_done c.loop-i.i _ _ _ c.loop-i.invariant.0 c.loop-i-test.false c.loop-i.invariant.1.0, omega arith)
+returns c = let e : c.sum.result ≡ sum_by (λ x. x) c.args.numbers.now = search rules in let f : c.sum.result ≡ sum (length c.args.numbers.now) (at c.args.numbers.now) = e ∙ list_sum c.args.numbers.now in (f, rw f (sum_under _ _ _ (λ i l. omega (arith, c.type_inv.numbers i))))

@@ -1,4 +1,5 @@
+use mathlib.Core.Path.{◌∙◌}
 use Rattle.plotunit.proofs.plot_check_pairing.Goals as goal
 
 pub returns : goal.returns
-returns c = c.check_pairing.ensures
+returns c = c.told.ensures ∙ c.check_pairing-answer.ensures
