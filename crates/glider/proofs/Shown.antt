@@ -18,7 +18,9 @@ use Rattle.scoresheet.specs.Cells.{tracks_of, reports_of}
 use Rattle.settling.specs.Settle.{updated_of}
 use Rattle.walk.specs.Table.{due_rank, paired_slot, settled_slot, settled_table}
 use Rattle.fates.specs.Fates.{owner_of, is_shown, slot_of, told_paired, told_of, after_report, report_numbers, shown_of}
-use Rattle.sector.specs.declared.Served.{Served}
+use Rattle.sector.specs.declared.Counts.{Counts}
+use Rattle.intake.specs.declared.Refusal.{Refusal}
+use Rattle.std.specs.Prelude.{Result}
 use Rattle.sector.specs.Serve.{Lent, lent, rooms, room_for, sector_refusal, Chosen, Choice, reports_in, after_of, ServesSector}
 use Rattle.glider.specs.Scene.{table, batch, sector, scene, cells, kept, both_shown}
 use Rattle.glider.proofs.Story.{cells_are, best_keeps_the_glider}
@@ -50,7 +52,7 @@ kept_is_shown : shown_of (reports_in scene) kept (settled_table scene kept) ++ d
 unfolding shown_of report_numbers outs after_report told_of told_paired owner_of slot_of is_shown first_index settled_table due_rank settled_slot paired_slot updated_of due_slots indices_from slot_due table batch bytes_of report_bytes_of track_of report_of reports_of
 kept_is_shown = refl
 
-pub call_shows_the_glider : (l' : Lent) (answer : Served) → ServesSector scene lists l' answer → l'.shown ≡ both_shown
+pub call_shows_the_glider : (l' : Lent) (answer : Result Counts Refusal) → ServesSector scene lists l' answer → l'.shown ≡ both_shown
 unfolding after_of
 call_shows_the_glider l' answer s =
     let w = s.served not_refused in

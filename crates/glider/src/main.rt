@@ -155,7 +155,7 @@ fn sheet() -> [u32; CELLS]
     let table = tracks();
     let batch = returns();
     let mut sheet = [0u32; CELLS];
-    scoresheet::score_sheet(&table, SECTOR, sigmas(), &batch, &mut sheet);
+    let _ = scoresheet::score_sheet(&table, SECTOR, sigmas(), &batch, &mut sheet);
     sheet
 }
 
@@ -201,7 +201,7 @@ fn marks() -> [u8; REPORTS]
     let mut shown = [0u8; REPORTS];
     let mut discounts = [0u32; REPORTS];
     let mut prices = [0u32; TRACKS];
-    sector::serve_sector(
+    let _ = sector::serve_sector(
         &mut table,
         &mut sector,
         sigmas(),

@@ -1,14 +1,19 @@
 -- A loop that looks for the first place of a kind, or lists all its places.
 use Prim.Native.Nat.{ℕ, zero, suc, ◌+◌, ◌≤◌, ◌<◌}
-use mathlib.Core.Path.{◌≡◌, refl, sym, ◌∙◌}
+use mathlib.Core.Path.{◌≡◌, refl, sym, ap, ◌∙◌}
 use mathlib.Core.List.{List, [], ◌∷◌, ◌++◌, append_assoc, append-nil}
-use mathlib.Core.Bool.{Bool, true, false, cond}
+use mathlib.Core.Bool.{Bool, true, false, not, cond, ◌||◌}
 use native.Mathlib.Omega.{arith}
 use native.Mathlib.Nat.{zero-add, le_of_suc-le-suc, not-suc-le-zero}
 use native.Mathlib.Numerals.{add-one}
+use borrow.Author.Tests.{lt-leb, le-leb, ltb-true, ltb-false}
+use lib.Dec.{leb, ltb, leb-suc-suc, leb-suc-zero}
 use lib.ListN.{length, get_or, take, drop, set, length-set, drop_of_length-le}
 use lib.Seq.{drop-cons, length-take-le, take-suc-set, take-set-le}
-use Rattle.laws.specs.Lists.{first_index, indices_from, count}
+use Rattle.std.specs.List.{position, list_any}
+use Rattle.std.specs.Prelude.{Some, None, is_some, is_none}
+use Rattle.std.proofs.lemmas.List.Recursion.{is_position_or_len}
+use Rattle.laws.specs.Lists.{first_index, indices_from, count, found_below}
 
 -- the first i elements are passed, none of the kind
 pub record Passed {A : Type 0} (p : A → Bool) (xs : List A) (i : ℕ) : Type 0 where
@@ -92,6 +97,37 @@ module _ {A : Type 0} (p : A → Bool) where
   pub indices_out : (xs : List A) (i : ℕ) → length xs ≤ i → indices_from p i (drop i xs) ≡ []
   unfolding indices_from
   indices_out xs i h = rw (drop_of_length-le xs h)
+
+-- ---- the index as an answer
+
+pub position_found : {A : Type 0} (p : A → Bool) (xs : List A) → position p xs ≡ found_below (first_index p xs) (length xs)
+unfolding found_below first_index
+position_found p xs = rw (is_position_or_len (first_index p) p refl (λ x ys. ap (cond (p x) 0) (omega arith)) xs)
+
+pub some_found : (i n : ℕ) → is_some (found_below i n) ≡ ltb i n
+unfolding found_below
+some_found i n = go (ltb i n)
+  where
+    go : (b : Bool) → is_some (cond b (Some i) None) ≡ b
+    go true = refl
+    go false = refl
+
+pub none_found : (i n : ℕ) → is_none (found_below i n) ≡ leb n i
+none_found i n = rw (some_found i n) (go (ltb i n) refl)
+  where
+    go : (b : Bool) → ltb i n ≡ b → not b ≡ leb n i
+    go true e = sym (lt-leb n i (ltb-true i n e))
+    go false e = sym (le-leb n i (ltb-false i n e))
+
+-- nothing of the kind is found
+pub none_any : {A : Type 0} (p : A → Bool) (xs : List A) → leb (length xs) (first_index p xs) ≡ not (list_any p xs)
+unfolding first_index
+none_any p [] = refl
+none_any p (x ∷ xs) = go (p x) (none_any p xs)
+  where
+    go : (b : Bool) → leb (length xs) (first_index p xs) ≡ not (list_any p xs) → leb (suc (length xs)) (cond b 0 (suc (first_index p xs))) ≡ not (b || list_any p xs)
+    go true e = leb-suc-zero (length xs)
+    go false e = leb-suc-suc (length xs) (first_index p xs) ∙ e
 
 -- places of the kind gathered into a list: the first n are found, and i are looked at
 pub record Gathered {A : Type 0} (p : A → Bool) (xs : List A) (out : List ℕ) (n i : ℕ) : Type 0 where

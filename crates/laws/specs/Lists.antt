@@ -1,5 +1,5 @@
 -- What a loop over a list computes: the first place of a kind, all its places, a state that each element changes, an answer a step.
-use Rattle.std.specs.Prelude.{ℕ, zero, suc, List, [], ◌∷◌, Bool, cond, length, get_or}
+use Rattle.std.specs.Prelude.{ℕ, zero, suc, List, [], ◌∷◌, Bool, cond, Option, Some, None, ltb, length, get_or}
 
 module _ {A : Type 0} (p : A → Bool) where
   -- the index of the first element that p holds of, or the length
@@ -15,6 +15,10 @@ module _ {A : Type 0} (p : A → Bool) where
   -- and how many they are
   abbrev pub count : List A → ℕ
   count xs = length (indices_from 0 xs)
+
+-- such an index as an answer: none where it is the length
+unfoldable pub found_below : (i length : ℕ) → Option ℕ
+found_below i length = cond (ltb i length) (Some i) None
 
 -- a state that each element of a list changes in turn
 module _ {B S : Type 0} (step : B → S → S) where

@@ -8,8 +8,10 @@ use Rattle.laws.proofs.Stores.{same_or}
 use Rattle.matching.specs.Answer.{check_answer}
 use Rattle.engine.specs.Call.{pairing_refusal}
 use Rattle.engine.proofs.Theorems.{same_call}
+use Rattle.std.specs.Prelude.{Result}
+use Rattle.intake.specs.declared.Refusal.{Refusal}
 use Rattle.intake.specs.Refusals.{Input}
-use Rattle.sector.specs.declared.Served.{Served}
+use Rattle.sector.specs.declared.Counts.{Counts}
 use Rattle.sector.specs.Serve.{Lent, sector_refusal}
 use Rattle.promises.proofs.Calls.{same_choice_same_result}
 use Rattle.plotunit.specs.Calls.{served_number, served_counts, ServesForC, ScoresForC, paired_number, PairsForC}
@@ -19,7 +21,7 @@ pub one_serve : {i : Input} {l l₁ l₂ : Lent} {counts c₁ c₂ : List ℕ} {
 one_serve {i} {l} {l₁} {l₂} {counts} R Q same =
     let w = same_choice_same_result i l l₁ l₂ R.answer Q.answer R.promised Q.promised same in (
       R.numbered ∙ ap served_number w.1 ∙ sym Q.numbered,
-      (R.counted ∙ ap (λ (a : Served). served_counts a counts) w.1 ∙ sym Q.counted, w.0),
+      (R.counted ∙ ap (λ (a : Result Counts Refusal). served_counts a counts) w.1 ∙ sym Q.counted, w.0),
     )
 
 -- plot_score_sheet: nothing is left open.

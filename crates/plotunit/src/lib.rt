@@ -10,8 +10,8 @@ ghost use Rattle.plotunit.specs.Calls.{site_from, ServesForC, ScoresForC, PairsF
 
 use matching::Fault;
 use records::Site;
-use scoresheet::Sheeted;
-use sector::{Counts, Served};
+use scoresheet::Size;
+use sector::Counts;
 
 const SERVED: u8 = 0;
 
@@ -57,9 +57,9 @@ pub extern "C" fn plot_serve_sector(
         table, sector, site, batch, fates, slots, shown, discounts, prices,
     );
     match answer {
-        Served::Refused(number) => number,
-        Served::Done(c) => {
-            write_counts(counts, c);
+        Err(refusal) => refusal.number(),
+        Ok(served) => {
+            write_counts(counts, served);
             SERVED
         }
     }
@@ -84,8 +84,8 @@ pub extern "C" fn plot_score_sheet(
     };
     let answer = scoresheet::score_sheet(table, sector, site, batch, sheet);
     match answer {
-        Sheeted::Refused(number) => number,
-        Sheeted::Sheet(tracks, reports) => {
+        Err(refusal) => refusal.number(),
+        Ok(Size { tracks, reports }) => {
             *size = [tracks as u32, reports as u32];
             SERVED
         }

@@ -3,53 +3,40 @@ use Prim.Native.Nat.{ℕ}
 use mathlib.Core.Path.{◌≡◌, refl, sym, ap, ◌∙◌}
 use mathlib.Core.List.{List}
 use mathlib.Core.Logic.{⊎_elim}
-use native.Mathlib.Omega.{arith}
 use Rattle.laws.proofs.Stores.{same_or}
 use Rattle.laws.specs.Lists.{at}
 use Rattle.matching.specs.Pairing.{Best, sum_of_scores}
 use Rattle.matching.proofs.Theorems.{zero_is_best, best_agree}
-use Rattle.intake.specs.Refusals.{Input}
+use Rattle.std.specs.Prelude.{Result, Ok, Err}
+use Rattle.intake.specs.declared.Refusal.{Refusal}
+use Rattle.intake.specs.Refusals.{Input, number, refusal_numbered, number_given}
+use Rattle.intake.proofs.Numbers.{number_positive, numbered_again}
 use Rattle.scoresheet.specs.Cells.{tracks_of, reports_of, cells_of, sector_sheet}
 use Rattle.sector.specs.declared.Counts.{Counts}
-use Rattle.sector.specs.declared.Served.{Served}
-use Rattle.sector.specs.declared.Served.TheVariants.{Refused, Done}
 use Rattle.sector.specs.Serve.{Lent, sector_refusal, Chosen, Choice, tally, counts_of, ServedWith, ServesSector}
-use Rattle.sector.proofs.Answering.{answers_refused, answers_done}
+use Rattle.sector.proofs.Answering.{answers_number, answers_refused, answers_done}
 use Rattle.promises.specs.Words.{RefusedExactlyWhen, SameScore}
 
 -- ---- refusals
 
--- A call is refused by a number exactly when that number is the first that applies; then all that was lent keeps its bytes.
-pub refused_exactly_when : (i : Input) (l l' : Lent) (answer : Served) → ServesSector i l l' answer → (k : ℕ) → RefusedExactlyWhen i l l' answer k
-refused_exactly_when i l l' answer R k =
-    ⊎_elim
-    (λ z. record { only = λ e. absurd (apart z e); when = λ e n. absurd (n (sym e ∙ z)); kept = λ e. absurd (apart z e) })
-    (λ n.
-    let a : answer ≡ Refused (sector_refusal i l) = answers_refused R n in
+-- A call is refused exactly when the refusal's number is the first that applies; then all that was lent keeps its bytes.
+pub refused_exactly_when : (i : Input) (l l' : Lent) (answer : Result Counts Refusal) → ServesSector i l l' answer → (r : Refusal) → RefusedExactlyWhen i l l' answer r
+refused_exactly_when i l l' answer R r =
+    let only : answer ≡ Err r → sector_refusal i l ≡ number r = λ e. sym (answers_number R) ∙ ap number_given e in
     record {
-      only = λ e. (same a e, λ z. n (same a e ∙ z));
-      when = λ e h. rw (← e) a;
-      kept = λ e. R.refused n;
-    })
-    (same_or (sector_refusal i l) 0)
-  where
-    apart : sector_refusal i l ≡ 0 → answer ≡ Refused k → ⊥
-    apart z e =
-        let d : answer ≡ Done R.counts = answers_done R z in
-        let no : ◌≡◌ {A = ℕ} 0 1 = cc in
-        omega arith
-
-    same : {m : ℕ} → answer ≡ Refused m → answer ≡ Refused k → m ≡ k
-    same a e = cc
+      only = only;
+      when = λ e. answers_refused R (λ z. number_positive r (sym e ∙ z)) ∙ ap Err (ap refusal_numbered e ∙ numbered_again r);
+      kept = λ e. R.refused (λ z. number_positive r (sym (only e) ∙ z));
+    }
 
 -- In every other case it is served, and answers by its counts.
-pub done_otherwise : (i : Input) (l l' : Lent) (answer : Served) → ServesSector i l l' answer → sector_refusal i l ≡ 0 → (counts : Counts) × (answer ≡ Done counts)
+pub done_otherwise : (i : Input) (l l' : Lent) (answer : Result Counts Refusal) → ServesSector i l l' answer → sector_refusal i l ≡ 0 → (counts : Counts) × (answer ≡ Ok counts)
 done_otherwise i l l' answer R e = (R.counts, answers_done R e)
 
 -- ---- what is settled
 
 -- Two results of one call whose pairing, prices and discounts are the same are the same in every byte and in the answer.
-pub same_choice_same_result : (i : Input) (l l₁ l₂ : Lent) (a₁ a₂ : Served) (R : ServesSector i l l₁ a₁) (Q : ServesSector i l l₂ a₂) → ((e : sector_refusal i l ≡ 0) → (R.served e).chosen ≡ (Q.served e).chosen) → (l₁ ≡ l₂) × (a₁ ≡ a₂)
+pub same_choice_same_result : (i : Input) (l l₁ l₂ : Lent) (a₁ a₂ : Result Counts Refusal) (R : ServesSector i l l₁ a₁) (Q : ServesSector i l l₂ a₂) → ((e : sector_refusal i l ≡ 0) → (R.served e).chosen ≡ (Q.served e).chosen) → (l₁ ≡ l₂) × (a₁ ≡ a₂)
 same_choice_same_result i l l₁ l₂ a₁ a₂ R Q same =
     ⊎_elim
     (λ z.
@@ -57,7 +44,7 @@ same_choice_same_result i l l₁ l₂ a₁ a₂ R Q same =
     let q = Q.served z in
     let c : r.chosen ≡ q.chosen = same z in (
       r.left ∙ rw c (sym q.left),
-      answers_done R z ∙ ap Done (r.counted ∙ rw c (sym q.counted)) ∙ sym (answers_done Q z),
+      answers_done R z ∙ ap Ok (r.counted ∙ rw c (sym q.counted)) ∙ sym (answers_done Q z),
     ))
     (λ n. (R.refused n ∙ sym (Q.refused n), answers_refused R n ∙ sym (answers_refused Q n)))
     (same_or (sector_refusal i l) 0)

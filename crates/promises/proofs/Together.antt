@@ -14,16 +14,17 @@ use Rattle.laws.specs.Lists.{at}
 use Rattle.matching.specs.Pairing.{InRange, Alike, sheet_of}
 use Rattle.matching.specs.Answer.{Fits, check_answer}
 use Rattle.matching.proofs.Theorems.{zero_certificate, ready_is_not_refused, beyond_is_not_read}
-use Rattle.std.specs.Prelude.{Ok}
 use Rattle.engine.specs.Call as pairing
-use Rattle.intake.specs.Refusals.{Input, fault_of, refusal_of, Ready, no_room}
-use Rattle.intake.proofs.Readiness.{ready, not_refused, refused_by_fault, refused_by_room}
-use Rattle.scoresheet.specs.declared.Sheeted.TheVariants as sheet_call
+use Rattle.std.specs.Prelude.{Result, Ok, Err}
+use Rattle.intake.specs.declared.Refusal.{Refusal}
+use Rattle.intake.specs.Refusals.{Input, number, number_given, fault_of, refusal_of, answer_by, Ready, no_room}
+use Rattle.intake.proofs.Numbers.{number_positive, answer_refused, answer_numbered}
+use Rattle.intake.proofs.Readiness.{ready, not_refused, refused_by_fault, refused_by_room, refused_upto}
+use Rattle.scoresheet.specs.declared.Size.{Size}
 use Rattle.scoresheet.specs.Cells.{cells_of, tracks_of, reports_of, sector_sheet}
-use Rattle.scoresheet.specs.Call.{cell_room, sheeted_by, sheet_by, sheeted_of, sheet_after}
+use Rattle.scoresheet.specs.Call.{cell_room, sized, size_of, sheeted_by, sheet_by, sheeted_of, sheet_after}
 use Rattle.scoresheet.proofs.SheetLaws.{cells_length, sheet_in_range}
-use Rattle.sector.specs.declared.Served.{Served}
-use Rattle.sector.specs.declared.Served.TheVariants.{Done}
+use Rattle.sector.specs.declared.Counts.{Counts}
 use Rattle.sector.specs.Serve.{Lent, sector_refusal, Chosen, Choice, counts_of, after_of, ServesSector}
 use Rattle.sector.proofs.Answering.{done_by}
 use Rattle.promises.specs.Words.{first_of, RoomToPair, Together, RefusedAlike}
@@ -67,12 +68,14 @@ record SheetGiven (i : Input) (sheet after : List ℕ) (n m : ℕ) : Type 0 wher
   pub reports : reports_of i ≡ m
   pub cells : after ≡ cells_of i ++ drop (tracks_of i * reports_of i) sheet
 
-given_by : (k : ℕ) (i : Input) (sheet : List ℕ) (n m : ℕ) → (k ≡ 0 → Ready i) → sheeted_by k i ≡ sheet_call.Sheet n m → SheetGiven i sheet (sheet_by k i sheet) n m
-unfolding sheeted_by sheet_by
-given_by zero i sheet n m r e = record { is_ready = r refl; tracks = cc; reports = cc; cells = refl }
+given_by : (k : ℕ) (i : Input) (sheet : List ℕ) (n m : ℕ) → (k ≡ 0 → Ready i) → sheeted_by k i ≡ Ok (sized n m) → SheetGiven i sheet (sheet_by k i sheet) n m
+unfolding sheeted_by sheet_by answer_by size_of
+given_by zero i sheet n m r e =
+    let s : size_of i ≡ sized n m = cc in
+    record { is_ready = r refl; tracks = ap (λ (z : Size). z.tracks) s; reports = ap (λ (z : Size). z.reports) s; cells = refl }
 given_by (suc k) i sheet n m r e = let z : ◌≡◌ {A = ℕ} 0 1 = cc in absurd (omega arith)
 
-given : (i : Input) (sheet : List ℕ) (n m : ℕ) → sheeted_of i sheet ≡ sheet_call.Sheet n m → SheetGiven i sheet (sheet_after i sheet) n m
+given : (i : Input) (sheet : List ℕ) (n m : ℕ) → sheeted_of i sheet ≡ Ok (sized n m) → SheetGiven i sheet (sheet_after i sheet) n m
 unfolding sheeted_of sheet_after
 given i sheet n m e = given_by (refusal_of i (cell_room i sheet)) i sheet n m (λ z. ready i (not_refused i (cell_room i sheet) z).0) e
 
@@ -158,7 +161,7 @@ module _ (i : Input) (rest : List ℕ) (r : Ready i) (p u v : List ℕ) (room : 
 -- ---- the three calls
 
 -- A sector call that is not refused may answer with any choice: with exactly that pairing, those prices and those discounts.
-pub sector_call_may_answer_so : (i : Input) (l : Lent) (c : Chosen) → sector_refusal i l ≡ 0 → Choice i c → ServesSector i l (after_of i l c) (Done (counts_of i c.pairing))
+pub sector_call_may_answer_so : (i : Input) (l : Lent) (c : Chosen) → sector_refusal i l ≡ 0 → Choice i c → ServesSector i l (after_of i l c) (Ok (counts_of i c.pairing))
 sector_call_may_answer_so i l c e h = record {
   counts = counts_of i c.pairing;
   answered = sym (done_by (counts_of i c.pairing) e);
@@ -166,7 +169,7 @@ sector_call_may_answer_so i l c e h = record {
   served = λ z. record { chosen = c; choice = h; counted = refl; left = refl };
 }
 
-module _ (i : Input) (sheet p u v : List ℕ) (n m : ℕ) (e : sheeted_of i sheet ≡ sheet_call.Sheet n m) (room : RoomToPair i p u v) where
+module _ (i : Input) (sheet p u v : List ℕ) (n m : ℕ) (e : sheeted_of i sheet ≡ Ok (sized n m)) (room : RoomToPair i p u v) where
   -- Where the sheet call gives a sheet, the pairing call on it is done, and what it writes is a choice that the sector call may make.
   pub two_calls_give_a_choice : {p' u' v' : List ℕ} {a : pairing.Paired} → pairing.PairsSheet n m (sheet_after i sheet) p u v p' u' v' a → Together i p' u' v' a
   two_calls_give_a_choice R =
@@ -174,7 +177,7 @@ module _ (i : Input) (sheet p u v : List ℕ) (n m : ℕ) (e : sheeted_of i shee
       call_is_done i _ g.is_ready p u v room (rw (g.cells, ← g.tracks, ← g.reports) at R)
 
   -- So a sector call gives what these two give together: it may answer with exactly that pairing and those numbers.
-  pub sector_call_gives_both : {p' u' v' : List ℕ} {a : pairing.Paired} → pairing.PairsSheet n m (sheet_after i sheet) p u v p' u' v' a → (l : Lent) → sector_refusal i l ≡ 0 → ServesSector i l (after_of i l (first_of i p' u' v')) (Done (counts_of i (take (tracks_of i) p')))
+  pub sector_call_gives_both : {p' u' v' : List ℕ} {a : pairing.Paired} → pairing.PairsSheet n m (sheet_after i sheet) p u v p' u' v' a → (l : Lent) → sector_refusal i l ≡ 0 → ServesSector i l (after_of i l (first_of i p' u' v')) (Ok (counts_of i (take (tracks_of i) p')))
   sector_call_gives_both {p'} {u'} {v'} R l z = sector_call_may_answer_so i l (first_of i p' u' v') z (two_calls_give_a_choice R).choice
 
   -- And whatever choice a sector call makes, the pairing call may write on that sheet.
@@ -197,21 +200,22 @@ by_fault i room k h n e =
     go true z = n (sym z)
     go false z = omega arith
 
-sheet_refused_by : (j k : ℕ) (i : Input) → (sheeted_by j i ≡ sheet_call.Refused k → (j ≡ k) × (k ≡ 0 → ⊥)) × (j ≡ k → (k ≡ 0 → ⊥) → sheeted_by j i ≡ sheet_call.Refused k)
+sheet_refused_by : (j : ℕ) (r : Refusal) (i : Input) → j ≤ no_room → (sheeted_by j i ≡ Err r → j ≡ number r) × (j ≡ number r → sheeted_by j i ≡ Err r)
 unfolding sheeted_by
-sheet_refused_by zero k i = ((λ e. let z : ◌≡◌ {A = ℕ} 0 1 = cc in absurd (omega arith)), λ e n. absurd (n (sym e)))
-sheet_refused_by (suc j) k i = ((λ e. (cc, λ z. let q : suc j ≡ k = cc in omega arith)), λ e n. ap sheet_call.Refused e)
+sheet_refused_by j r i h =
+    (λ e. sym (answer_numbered j (size_of i) h) ∙ ap number_given e, λ e. rw e (answer_refused r (size_of i)))
 
--- A sector call and a sheet call that are handed the same are refused by the same numbers of 1 to 8.
-pub refused_alike : (i : Input) (l l' : Lent) (answer : Served) (sheet : List ℕ) → ServesSector i l l' answer → (k : ℕ) → k < no_room → RefusedAlike answer (sheeted_of i sheet) k
+-- A sector call and a sheet call that are handed the same are refused alike, by any but the room.
+pub refused_alike : (i : Input) (l l' : Lent) (answer : Result Counts Refusal) (sheet : List ℕ) → ServesSector i l l' answer → (r : Refusal) → number r < no_room → RefusedAlike answer (sheeted_of i sheet) r
 unfolding sector_refusal sheeted_of
-refused_alike i l l' answer sheet R k h = record {
-  by_sheet = λ e.
-      let w = (refused_exactly_when i l l' answer R k).only e in
-      let f : fault_of i ≡ k = by_fault i _ k h w.1 w.0 in
-      (sheet_refused_by _ k i).1 (refused_by_fault i _ (λ z. w.1 (sym f ∙ z)) ∙ f) w.1;
-  by_sector = λ e.
-      let w = (sheet_refused_by _ k i).0 e in
-      let f : fault_of i ≡ k = by_fault i _ k h w.1 w.0 in
-      (refused_exactly_when i l l' answer R k).when (refused_by_fault i _ (λ z. w.1 (sym f ∙ z)) ∙ f) w.1;
-}
+refused_alike i l l' answer sheet R r h =
+    let p = number_positive r in
+    let w = sheet_refused_by _ r i (refused_upto i (cell_room i sheet)) in
+    record {
+      by_sheet = λ e.
+          let f : fault_of i ≡ number r = by_fault i _ (number r) h p ((refused_exactly_when i l l' answer R r).only e) in
+          w.1 (refused_by_fault i _ (λ z. p (sym f ∙ z)) ∙ f);
+      by_sector = λ e.
+          let f : fault_of i ≡ number r = by_fault i _ (number r) h p (w.0 e) in
+          (refused_exactly_when i l l' answer R r).when (refused_by_fault i _ (λ z. p (sym f ∙ z)) ∙ f);
+    }

@@ -1,19 +1,17 @@
 -- What a call and its answer say: of one report, of one due track, of all of them; P is the pairing.
-use Rattle.std.specs.Prelude.{ℕ, ◌+◌, ◌-◌, ◌≤◌, ◌<◌, ◌≡◌, true, ◌⊎◌, List, [], length, get_or, take, Ok}
+use Rattle.std.specs.Prelude.{ℕ, ◌+◌, ◌-◌, ◌≤◌, ◌<◌, ◌≡◌, true, ◌⊎◌, List, [], length, get_or, take, Result, Ok, Err}
 use Rattle.laws.specs.Lists.{at, count}
 use Rattle.records.specs.Bytes.{bytes_of, report_of, is_held, is_free}
 use Rattle.settling.specs.Settle.{updated_of, started_of}
 use Rattle.matching.specs.Pairing.{pairs, sum_of_scores, Agree}
 use Rattle.engine.specs.Call.{Paired}
-use Rattle.intake.specs.Refusals.{Input}
-use Rattle.scoresheet.specs.declared.Sheeted.{Sheeted}
-use Rattle.scoresheet.specs.declared.Sheeted.TheVariants as sheet_call
+use Rattle.intake.specs.declared.Refusal.{Refusal}
+use Rattle.intake.specs.Refusals.{Input, number}
+use Rattle.scoresheet.specs.declared.Size.{Size}
 use Rattle.scoresheet.specs.Cells.{tracks_of, reports_of, due_slot, due_track, sector_sheet}
 use Rattle.walk.specs.Table.{settled_table}
 use Rattle.fates.specs.Fates.{paired, started, shown_from, slots_of, shown_of}
 use Rattle.sector.specs.declared.Counts.{Counts}
-use Rattle.sector.specs.declared.Served.{Served}
-use Rattle.sector.specs.declared.Served.TheVariants.{Refused}
 use Rattle.sector.specs.Serve.{Lent, sector_refusal, Chosen, Choice, reports_in, fates_in}
 
 -- what report j is told: its fate, its slot, whether it is shown
@@ -120,18 +118,18 @@ pub record Together (i : Input) (pairing' prices' discounts' : List ℕ) (answer
   pub done : answer ≡ Ok tt
   pub choice : Choice i (first_of i pairing' prices' discounts')
 
--- a sector call and a sheet call are refused by the same numbers of 1 to 8
-pub record RefusedAlike (answer : Served) (sheeted : Sheeted) (k : ℕ) : Type 0 where
-  pub by_sheet : answer ≡ Refused k → sheeted ≡ sheet_call.Refused k
-  pub by_sector : sheeted ≡ sheet_call.Refused k → answer ≡ Refused k
+-- a sector call and a sheet call are refused alike
+pub record RefusedAlike (answer : Result Counts Refusal) (sheeted : Result Size Refusal) (r : Refusal) : Type 0 where
+  pub by_sheet : answer ≡ Err r → sheeted ≡ Err r
+  pub by_sector : sheeted ≡ Err r → answer ≡ Err r
 
 -- ---- a call as a whole
 
--- the answer is the refusal by number k exactly when k is the number that the call is to give back; then all that was lent keeps its bytes
-pub record RefusedExactlyWhen (i : Input) (l l' : Lent) (answer : Served) (k : ℕ) : Type 0 where
-  pub only : answer ≡ Refused k → (sector_refusal i l ≡ k) × (k ≡ 0 → ⊥)
-  pub when : sector_refusal i l ≡ k → (k ≡ 0 → ⊥) → answer ≡ Refused k
-  pub kept : answer ≡ Refused k → l' ≡ l
+-- the answer is a refusal exactly when that refusal's number is the one that the call is to give back; then all that was lent keeps its bytes
+pub record RefusedExactlyWhen (i : Input) (l l' : Lent) (answer : Result Counts Refusal) (r : Refusal) : Type 0 where
+  pub only : answer ≡ Err r → sector_refusal i l ≡ number r
+  pub when : sector_refusal i l ≡ number r → answer ≡ Err r
+  pub kept : answer ≡ Err r → l' ≡ l
 
 -- two choices have as many pairs and the same sum of pair scores, also as counted
 pub record SameScore (i : Input) (c c' : Chosen) (counts counts' : Counts) : Type 0 where

@@ -8,47 +8,49 @@ use borrow.Author.Tests.{le-leb, lt-leb}
 use lib.ListN.{length, take, drop}
 use lib.Seq.{length-take-le}
 use native.Mathlib.Nat.{mul-le-mul}
-use Rattle.intake.specs.Refusals.{Input, due_slots, most_due, most_batch, fault_of, refusal_of, Ready, no_room}
+use Rattle.intake.specs.Refusals.{Input, due_slots, most_due, most_batch, number, fault_of, refusal_of, answer_by, Ready, no_room}
+use Rattle.intake.proofs.Numbers.{number_positive, answer_refused}
+use Rattle.intake.specs.declared.Refusal.{Refusal}
+use Rattle.intake.specs.declared.Refusal.TheVariants.{NoRoom}
+use Rattle.std.specs.Prelude.{Result, Ok, Err}
 use Rattle.intake.proofs.Readiness.{ready, refused_by_fault, refused_by_room}
-use Rattle.scoresheet.specs.declared.Sheeted.{Sheeted}
-use Rattle.scoresheet.specs.declared.Sheeted.TheVariants.{Refused, Sheet}
+use Rattle.scoresheet.specs.declared.Size.{Size}
 use Rattle.scoresheet.specs.Cells.{cells_of, tracks_of, reports_of}
 use Rattle.scoresheet.specs.Ready.{RowsReady}
-use Rattle.scoresheet.specs.Call.{cell_room, sheeted_by, sheet_by, sheeted_of, sheet_after}
+use Rattle.scoresheet.specs.Call.{cell_room, sized, size_of, sheeted_by, sheet_by, sheeted_of, sheet_after}
 use Rattle.laws.proofs.Parts.{listed_room}
 
 -- the answer r, and the sheet after the call
-abbrev pub Answers : Input → List ℕ → Sheeted → List ℕ → Type 0
+abbrev pub Answers : Input → List ℕ → Result Size Refusal → List ℕ → Type 0
 Answers i sheet r after = (r ≡ sheeted_of i sheet) × (after ≡ sheet_after i sheet)
 
 -- two results that meet the promise are equal
-pub one_answer : (i : Input) (sheet : List ℕ) {r r' : Sheeted} {after after' : List ℕ} → Answers i sheet r after → Answers i sheet r' after' → (r ≡ r') × (after ≡ after')
+pub one_answer : (i : Input) (sheet : List ℕ) {r r' : Result Size Refusal} {after after' : List ℕ} → Answers i sheet r after → Answers i sheet r' after' → (r ≡ r') × (after ≡ after')
 one_answer i sheet a b = (a.0 ∙ sym b.0, a.1 ∙ sym b.1)
 
-refused_with : (k : ℕ) (i : Input) (sheet : List ℕ) → (k ≡ 0 → ⊥) → (Refused k ≡ sheeted_by k i) × (sheet ≡ sheet_by k i sheet)
-unfolding sheeted_by sheet_by
-refused_with zero i sheet h = absurd (h refl)
-refused_with (suc k) i sheet h = (refl, refl)
+kept_by : (k : ℕ) (i : Input) (sheet : List ℕ) → (k ≡ 0 → ⊥) → sheet ≡ sheet_by k i sheet
+unfolding sheet_by
+kept_by zero i sheet h = absurd (h refl)
+kept_by (suc k) i sheet h = refl
 
-refused : (k : ℕ) (i : Input) (sheet : List ℕ) → refusal_of i (cell_room i sheet) ≡ k → (k ≡ 0 → ⊥) → Answers i sheet (Refused k) sheet
-unfolding sheeted_of sheet_after
-refused k i sheet e h = rw e (refused_with k i sheet h)
+refused : (r : Refusal) (i : Input) (sheet : List ℕ) → refusal_of i (cell_room i sheet) ≡ number r → Answers i sheet (Err r) sheet
+unfolding sheeted_of sheet_after sheeted_by
+refused r i sheet e = rw e (sym (answer_refused r (size_of i)), kept_by (number r) i sheet (number_positive r))
 
 -- refused by one of 1 to 8
-pub by_fault : (k : ℕ) (i : Input) (sheet : List ℕ) → k ≡ fault_of i → (k ≡ 0 → ⊥) → Answers i sheet (Refused k) sheet
-by_fault k i sheet e h = refused k i sheet (refused_by_fault i (cell_room i sheet) (λ z. h (e ∙ z)) ∙ sym e) h
+pub by_fault : (r : Refusal) (i : Input) (sheet : List ℕ) → number r ≡ fault_of i → Answers i sheet (Err r) sheet
+by_fault r i sheet e = refused r i sheet (refused_by_fault i (cell_room i sheet) (λ z. number_positive r (e ∙ z)) ∙ sym e)
 
 -- refused by 9
-by_room : (i : Input) (sheet : List ℕ) → fault_of i ≡ 0 → length sheet < tracks_of i * reports_of i → Answers i sheet (Refused no_room) sheet
+by_room : (i : Input) (sheet : List ℕ) → fault_of i ≡ 0 → length sheet < tracks_of i * reports_of i → Answers i sheet (Err NoRoom) sheet
 unfolding cell_room
 by_room i sheet e h =
-    refused no_room i sheet
+    refused NoRoom i sheet
     (refused_by_room i (cell_room i sheet) e ∙ ap (λ (b : Bool). cond b 0 no_room) (lt-leb (tracks_of i * reports_of i) (length sheet) h))
-    (λ z. omega arith)
 
 -- served
-done : (i : Input) (sheet : List ℕ) → fault_of i ≡ 0 → tracks_of i * reports_of i ≤ length sheet → Answers i sheet (Sheet (tracks_of i) (reports_of i)) (cells_of i ++ drop (tracks_of i * reports_of i) sheet)
-unfolding sheeted_of sheet_after cell_room sheeted_by sheet_by
+done : (i : Input) (sheet : List ℕ) → fault_of i ≡ 0 → tracks_of i * reports_of i ≤ length sheet → Answers i sheet (Ok (size_of i)) (cells_of i ++ drop (tracks_of i * reports_of i) sheet)
+unfolding sheeted_of sheet_after cell_room sheeted_by sheet_by answer_by
 done i sheet e h = rw (refused_by_room i (cell_room i sheet) e, le-leb (tracks_of i * reports_of i) (length sheet) h) (refl, refl)
 
 -- what the call counts on once 1 to 8 do not apply, with its due list
@@ -73,12 +75,12 @@ pub rows_ready : {i : Input} {n : ℕ} {due sheet : List ℕ} → Listed i n due
 rows_ready {i} {n} {due} {sheet} l h = record { due_is = l.slots; room = rw (length-take-le n due l.room) h }
 
 -- the two ways on from there
-pub too_short : {i : Input} {n : ℕ} {due : List ℕ} (sheet : List ℕ) → Listed i n due → length sheet < n * length i.batch → Answers i sheet (Refused no_room) sheet
+pub too_short : {i : Input} {n : ℕ} {due : List ℕ} (sheet : List ℕ) → Listed i n due → length sheet < n * length i.batch → Answers i sheet (Err NoRoom) sheet
 unfolding reports_of
 too_short {i} {n} sheet l h = by_room i sheet l.no_fault (rw l.count at h)
 
-pub served : {i : Input} {n : ℕ} {due : List ℕ} (sheet after : List ℕ) → Listed i n due → n * length i.batch ≤ length sheet → after ≡ cells_of i ++ drop (length (take n due) * length i.batch) sheet → Answers i sheet (Sheet n (length i.batch)) after
-unfolding reports_of
+pub served : {i : Input} {n : ℕ} {due : List ℕ} (sheet after : List ℕ) → Listed i n due → n * length i.batch ≤ length sheet → after ≡ cells_of i ++ drop (length (take n due) * length i.batch) sheet → Answers i sheet (Ok (sized n (length i.batch))) after
+unfolding reports_of size_of
 served {i} {n} {due} sheet after l h e =
     let c : length (take n due) ≡ tracks_of i = length-take-le n due l.room ∙ l.count in
     rw (e, c, l.count) (done i sheet l.no_fault (rw l.count at h))

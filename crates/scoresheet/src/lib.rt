@@ -7,12 +7,14 @@ ghost use Rattle.scoresheet.specs.Cells.{cell_of, pair_cell, cells_of};
 ghost use Rattle.scoresheet.specs.Call.{sheeted_of, sheet_after};
 ghost use Rattle.scoresheet.specs.Ready.{RowReady, RowsReady};
 
+use intake::Refusal;
 use records::{Site, Track};
 
-#[derive(Clone, Copy)]
-pub enum Sheeted {
-    Refused(u8),
-    Sheet(usize, usize),
+// How many due tracks a sheet has, and how many reports.
+#[derive(Clone, Copy, Debug, PartialEq, Eq)]
+pub struct Size {
+    pub tracks: usize,
+    pub reports: usize,
 }
 
 #[tactic(auto, unfolding(crate::specs::Cells::cell_of))]
@@ -27,12 +29,10 @@ fn fill_row(t: Track, site: Site, batch: &[[u8; records::REPORT_BYTES]], row: &m
     requires { RowReady t batch.now row.old }
     ensures { row.new ≡ map (pair_cell t site) batch.now }
 {
-    let mut j: usize = 0;
-    while j < batch.len() {
-        let report = batch[j];
-        let p = records::unpack_report(report);
+    // By index: of what a loop over iter_mut().zip(..) wrote, a proof knows nothing.
+    for (j, report) in batch.iter().enumerate() {
+        let p = records::unpack_report(*report);
         row[j] = cell(scoring::score(t, p, site));
-        j += 1;
     }
 }
 
@@ -50,14 +50,12 @@ pub fn fill_rows(
     ensures { sheet.new ≡ cells_of (input table.now sector site batch.now) ++ drop (length due.now * length batch.now) sheet.old }
 {
     let reports = batch.len();
-    let mut rank: usize = 0;
-    while rank < due.len() {
-        let k = due[rank];
-        let slot = table[k];
+    // No chunks_exact_mut: a batch may be empty, and a chunk may not.
+    for (rank, k) in due.iter().enumerate() {
+        let slot = table[*k];
         let from = rank * reports;
         let to = from + reports;
         fill_row(records::unpack(slot), site, batch, &mut sheet[from..to]);
-        rank += 1;
     }
 }
 
@@ -68,21 +66,16 @@ pub fn score_sheet(
     site: Site,
     batch: &[[u8; records::REPORT_BYTES]],
     sheet: &mut [u32],
-) -> Sheeted
+) -> Result<Size, Refusal>
     ensures answer { result ≡ sheeted_of (input table.now sector site batch.now) sheet.old }
     ensures sheet_after { sheet.new ≡ sheet_after (input table.now sector site batch.now) sheet.old }
 {
     let mut due = intake::blank_due();
-    let taken = intake::take_in(table, sector, site, batch, &mut due);
-    let number = taken.number;
-    if number != 0 {
-        return Sheeted::Refused(number);
-    }
-    let tracks = taken.tracks;
+    let tracks = intake::take_in(table, sector, site, batch, &mut due)?;
     let reports = batch.len();
     if sheet.len() < tracks * reports {
-        return Sheeted::Refused(intake::NO_ROOM);
+        return Err(Refusal::NoRoom);
     }
     fill_rows(table, sector, site, batch, &due[..tracks], sheet);
-    Sheeted::Sheet(tracks, reports)
+    Ok(Size { tracks, reports })
 }

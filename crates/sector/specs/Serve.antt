@@ -1,18 +1,17 @@
 -- What a sector call answers, and what it leaves in all that was lent (01, 'After pairing' and 'Numbers a sector call gives back').
-use Rattle.std.specs.Prelude.{ℕ, zero, suc, ◌≡◌, Bool, List, [], ◌∷◌, ◌++◌, leb, length, drop}
+use Rattle.std.specs.Prelude.{ℕ, ◌≡◌, Bool, List, [], ◌∷◌, ◌++◌, leb, length, drop, Result}
 use Rattle.laws.specs.Lists.{at}
 use Rattle.laws.specs.Tests.{holds}
 use Rattle.numbers.specs.Sectors.{next_sector}
 use Rattle.records.specs.declared.Site.{Site}
 use Rattle.matching.specs.Pairing.{sum_of_scores}
 use Rattle.matching.specs.Answer.{check_answer}
-use Rattle.intake.specs.Refusals.{Input, input, due_slots, refusal_of}
+use Rattle.intake.specs.declared.Refusal.{Refusal}
+use Rattle.intake.specs.Refusals.{Input, input, due_slots, refusal_of, answer_by}
 use Rattle.scoresheet.specs.Cells.{cells_of, tracks_of, reports_of, sector_sheet}
 use Rattle.walk.specs.Table.{settled_table, slot_prices, coasted_count, dropped_count}
 use Rattle.fates.specs.Fates.{paired, started, weak, full, Handed, handed, started_table, fates_of, slots_of, shown_of, count_of}
 use Rattle.sector.specs.declared.Counts.{Counts}
-use Rattle.sector.specs.declared.Served.{Served}
-use Rattle.sector.specs.declared.Served.TheVariants.{Refused, Done}
 
 -- what is lent to be written: the table and the sector, and the answer's lists, four a report and one a slot
 pub record Lent : Type 0 where
@@ -108,15 +107,14 @@ pub record ServedWith (i : Input) (l l' : Lent) (counts : Counts) : Type 0 where
   pub counted : counts ≡ counts_of i chosen.pairing
   pub left : l' ≡ after_of i l chosen
 
--- the answer of a call: the number of its refusal, or its counts where it is served (01, 'Numbers a sector call gives back')
-unfoldable pub served_by : ℕ → Counts → Served
-served_by zero counts = Done counts
-served_by (suc k) counts = Refused (suc k)
+-- the answer of a call: the refusal of a number, or its counts where it is served (01, 'Numbers a sector call gives back')
+unfoldable pub served_by : ℕ → Counts → Result Counts Refusal
+served_by number counts = answer_by number counts
 
 -- ---- the whole promise: l before the call, l' after it
 
 -- a refused call's counts are free: its answer does not show them
-pub record ServesSector (i : Input) (l l' : Lent) (answer : Served) : Type 0 where
+pub record ServesSector (i : Input) (l l' : Lent) (answer : Result Counts Refusal) : Type 0 where
   pub counts : Counts
   pub answered : answer ≡ served_by (sector_refusal i l) counts
   pub refused : (sector_refusal i l ≡ 0 → ⊥) → l' ≡ l

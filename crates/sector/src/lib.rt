@@ -13,6 +13,7 @@ ghost use Rattle.matching.specs.Pairing.{score_end, sheet_of, score_or, sum_of_s
 ghost use Rattle.sector.specs.Sum.{Summable};
 
 use fates::Fate;
+use intake::Refusal;
 use matching::index;
 use records::Site;
 use walk::MissedCounts;
@@ -20,7 +21,7 @@ use walk::MissedCounts;
 // A cell for each pair of the largest sector.
 const MOST_CELLS: usize = intake::MOST_DUE * intake::MOST_BATCH;
 
-#[derive(Clone, Copy)]
+#[derive(Clone, Copy, Debug, PartialEq, Eq)]
 pub struct Counts {
     pub paired: u32,
     pub coasted: u32,
@@ -29,13 +30,6 @@ pub struct Counts {
     pub weak: u32,
     pub full: u32,
     pub score_sum: u32,
-}
-
-// The answer of the sector call: the number of its refusal, or its counts where it is served.
-#[derive(Clone, Copy)]
-pub enum Served {
-    Refused(u8),
-    Done(Counts),
 }
 
 // The score of a due track's pair, or 0 where it has none.
@@ -57,10 +51,8 @@ fn score_sum(sheet: &[u32], reports: usize, pairing: &[u32]) -> u32
     ensures { result ≡ sum_of_scores (sheet_of (length pairing.now) reports sheet.now) (at pairing.now) }
 {
     let mut sum: u32 = 0;
-    let mut track: usize = 0;
-    while track < pairing.len() {
+    for track in 0..pairing.len() {
         sum += pair_score(sheet, reports, pairing, track);
-        track += 1;
     }
     sum
 }
@@ -270,11 +262,10 @@ fn has_room(
         reports <= discounts,
         table <= prices,
     ];
-    rooms.len() <= records::first_broken(&rooms)
+    records::first_broken(&rooms).is_none()
 }
 
 // The public call: refused by 1 to 9, and then nothing that was lent changes; else the sector is served.
-#[tactic(auto, using(crate::proofs::Answering::by_fault))]
 pub fn serve_sector(
     table: &mut [[u8; records::SLOT_BYTES]],
     sector: &mut u8,
@@ -285,18 +276,14 @@ pub fn serve_sector(
     shown: &mut [u8],
     discounts: &mut [u32],
     prices: &mut [u32],
-) -> Served
+) -> Result<Counts, Refusal>
     ensures { ServesSector (input table.old sector.old site batch.now)
         (lent table.old sector.old fates.old slots.old shown.old discounts.old prices.old)
         (lent table.new sector.new fates.new slots.new shown.new discounts.new prices.new) result }
 {
     let served = *sector;
     let mut due = intake::blank_due();
-    let taken = intake::take_in(table, served, site, batch, &mut due);
-    let number = taken.number;
-    if number != 0 {
-        return Served::Refused(number);
-    }
+    let tracks = intake::take_in(table, served, site, batch, &mut due)?;
     if !has_room(
         batch.len(),
         table.len(),
@@ -306,9 +293,8 @@ pub fn serve_sector(
         discounts.len(),
         prices.len(),
     ) {
-        return Served::Refused(intake::NO_ROOM);
+        return Err(Refusal::NoRoom);
     }
-    let tracks = taken.tracks;
     let counts = serve(
         table,
         served,
@@ -322,5 +308,5 @@ pub fn serve_sector(
         prices,
     );
     *sector = numbers::next_sector(served);
-    Served::Done(counts)
+    Ok(counts)
 }

@@ -17,15 +17,16 @@ use Rattle.records.specs.Fields.{track_fields}
 use Rattle.records.specs.Bytes.{bad_slot_field, SlotsGood}
 use Rattle.records.proofs.Checked.{sound}
 use Rattle.matching.proofs.Theorems.{zero_certificate}
-use Rattle.intake.specs.Refusals.{Input, most_slots, slot_bad, none_of, demands, no_room, refusal_of, Ready}
+use Rattle.std.specs.Prelude.{Result, Err}
+use Rattle.intake.specs.declared.Refusal.{Refusal}
+use Rattle.intake.specs.Refusals.{Input, number, most_slots, slot_bad, none_of, demands, no_room, refusal_of, Ready}
 use Rattle.intake.proofs.Readiness.{ready, fault_means, not_refused}
 use Rattle.scoresheet.specs.Cells.{cells_of, tracks_of, reports_of}
 use Rattle.walk.specs.Table.{settled_table}
 use Rattle.walk.specs.Ready.{Names}
 use Rattle.walk.proofs.Settled.{settled_length, settled_good}
 use Rattle.fates.proofs.Starts.{GoodReports, started_length, started_good}
-use Rattle.sector.specs.declared.Served.{Served}
-use Rattle.sector.specs.declared.Served.TheVariants.{Refused}
+use Rattle.sector.specs.declared.Counts.{Counts}
 use Rattle.sector.specs.Serve.{ServedWith, ServesSector, Lent, input_of, room_for, sector_refusal, Chosen, Choice, reports_in, after_of}
 use Rattle.promises.proofs.Calls.{refused_exactly_when}
 use Rattle.promises.proofs.Together.{by_fault}
@@ -107,7 +108,7 @@ module _ {l l' next : Lent} (a : Accepted l l') (o : HandsOn l' next) (site : Si
   never_refused_1_2_4 is_2 = not_by (input_of next site batch) _ 1 (omega arith) (demand_met is_2)
   never_refused_1_2_4 is_4 = not_by (input_of next site batch) _ 3 (omega arith) (demand_met is_4)
 
-  -- So it never answers 1, 2 or 4.
-  pub never_answered_1_2_4 : {number : ℕ} {last : Lent} {answer : Served} → OfTable number → ServesSector (input_of next site batch) next last answer → answer ≡ Refused number → ⊥
-  never_answered_1_2_4 {number} {last} {answer} n w e =
-      never_refused_1_2_4 n ((refused_exactly_when (input_of next site batch) next last answer w number).only e).0
+  -- So it never answers by 1, 2 or 4.
+  pub never_answered_1_2_4 : {r : Refusal} {last : Lent} {answer : Result Counts Refusal} → OfTable (number r) → ServesSector (input_of next site batch) next last answer → answer ≡ Err r → ⊥
+  never_answered_1_2_4 {r} {last} {answer} n w e =
+      never_refused_1_2_4 n ((refused_exactly_when (input_of next site batch) next last answer w r).only e)

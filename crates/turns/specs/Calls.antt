@@ -1,5 +1,5 @@
 -- Accepted sector calls, one after another (01, 'Numbers carried': a wait counts accepted calls).
-use Rattle.std.specs.Prelude.{ℕ, suc, ◌+◌, ◌-◌, ◌%◌, ◌≤◌, ◌<◌, ◌≡◌, Bool, true, ◌&&◌, List, [], eqb, length, get_or, set}
+use Rattle.std.specs.Prelude.{ℕ, suc, ◌+◌, ◌-◌, ◌%◌, ◌≤◌, ◌<◌, ◌≡◌, Bool, true, ◌&&◌, List, [], eqb, length, get_or, set, Result}
 use Rattle.laws.specs.Lists.{at, count}
 use Rattle.numbers.specs.Scales.{sectors, soonest}
 use Rattle.numbers.specs.Sectors.{sector_of, next_sector}
@@ -8,14 +8,15 @@ use Rattle.records.specs.declared.Track.{Track}
 use Rattle.records.specs.Fields.{held, wait_most}
 use Rattle.records.specs.Bytes.{wait_at, mark_at, track_of, bytes_of, slot_due, is_held, SlotsGood}
 use Rattle.fates.specs.Fates.{paired, started}
-use Rattle.sector.specs.declared.Served.{Served}
+use Rattle.intake.specs.declared.Refusal.{Refusal}
+use Rattle.sector.specs.declared.Counts.{Counts}
 use Rattle.sector.specs.Serve.{Lent, input_of, sector_refusal, ServesSector}
 
 -- an accepted call: what it was handed and answered; l was lent to it, and l' is what it left there
 pub record Accepted (l l' : Lent) : Type 0 where
   pub site : Site
   pub batch : List (List ℕ)
-  pub answer : Served
+  pub answer : Result Counts Refusal
   pub not_refused : sector_refusal (input_of l site batch) l ≡ 0
   pub promise : ServesSector (input_of l site batch) l l' answer
 

@@ -1,11 +1,6 @@
-use Prim.Native.Nat.{◌-◌}
-use lib.ListN.{length}
 use Rattle.laws.proofs.Filled.{MapFilled}
 use Rattle.scoresheet.specs.Cells.{pair_cell}
 use Rattle.scoresheet.proofs.fill_row.Given as goal
 
 abbrev pub invariant-loop-j : goal.invariant-loop-j
 invariant-loop-j l = MapFilled (pair_cell l.t l.site) l.batch l.row l.initial.row l.j
-
-abbrev pub decreases-loop-j : goal.decreases-loop-j
-decreases-loop-j l = length l.batch - l.j

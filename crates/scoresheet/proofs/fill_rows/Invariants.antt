@@ -1,11 +1,6 @@
-use Rattle.scoresheet.proofs.Rows.{RowsFilled}
-use Prim.Native.Nat.{◌-◌}
-use lib.ListN.{length}
 use Rattle.intake.specs.Refusals.{input}
+use Rattle.scoresheet.proofs.Rows.{RowsFilled}
 use Rattle.scoresheet.proofs.fill_rows.Given as goal
 
 abbrev pub invariant-loop-rank : goal.invariant-loop-rank
 invariant-loop-rank l = RowsFilled (input l.table l.sector l.site l.batch) l.due l.sheet l.initial.sheet l.rank
-
-abbrev pub decreases-loop-rank : goal.decreases-loop-rank
-decreases-loop-rank l = length l.due - l.rank
