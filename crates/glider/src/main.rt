@@ -9,7 +9,7 @@ ghost use Rattle.glider.specs.Nearest.{score_in, nearer_of, nearest_of, nearest_
 ghost use Rattle.glider.specs.Scene.{track_at, return_at, table, batch, site, cells, lost, kept, both_shown};
 ghost use Rattle.matching.specs.Pairing.{most_reports};
 
-use matching::{NONE, index};
+use matching::NONE;
 use records::{Report, Site, Track};
 use std::io;
 
@@ -33,7 +33,7 @@ const RETURNS: [&str; REPORTS] = ["the ridge's return", "the glider's return"];
 fn score_in(row: &[u32], report: u32) -> u32
     ensures { result ≡ score_in row.now report }
 {
-    row.get(index(report)).copied().unwrap_or(NONE)
+    row.get(report as usize).copied().unwrap_or(NONE)
 }
 
 // Report j in the place of the nearest so far, if it is free and its score is lower.
@@ -63,7 +63,7 @@ fn take_report(taken: &mut [bool], report: u32)
     ensures { taken.new ≡ set taken.old report true }
 {
     // By index: of what is written through get_mut a proof knows no element.
-    let j = index(report);
+    let j = report as usize;
     if j < taken.len() {
         taken[j] = true;
     }
@@ -216,7 +216,7 @@ fn marks() -> [u8; REPORTS]
 }
 
 fn name_of(report: u32) -> &'static str {
-    RETURNS.get(index(report)).copied().unwrap_or("nothing")
+    RETURNS.get(report as usize).copied().unwrap_or("nothing")
 }
 
 fn tell(rt: &HostRuntime, who: &str, pairing: [u32; TRACKS]) -> io::Result<()> {

@@ -1,38 +1,13 @@
 -- A loop that writes at named places, and lists of places.
-use Prim.Native.Nat.{ℕ, zero, suc, ◌+◌, ◌≤◌, ◌<◌}
-use mathlib.Core.Path.{◌≡◌, refl, sym, ◌∙◌}
+use Prim.Native.Nat.{ℕ, zero, suc, ◌≤◌, ◌<◌}
 use mathlib.Core.Bool.{Bool, true, false, cond}
 use mathlib.Core.List.{List, [], ◌∷◌}
 use native.Mathlib.Nat.{le_of_suc-le-suc, not-suc-le-zero}
 use native.Mathlib.Omega.{arith}
-use borrow.Author.Count.{below_more}
-use lib.ListN.{length, get_or, set, length-set}
-use lib.Seq.{get_or-set_same, get_or-set_other}
+use lib.ListN.{length, get_or}
 use Rattle.laws.specs.Lists.{indices_from}
-use Rattle.laws.specs.Places.{Distinct, Placed}
+use Rattle.laws.specs.Places.{Distinct}
 use Rattle.laws.proofs.Ranks.{named}
-
-module _ {A : Type 0} (d : A) {places : List ℕ} {v : ℕ → A} where
-  pub placed_none : (was : List A) → Placed d places v was was 0
-  placed_none was = record { same = refl; upto = omega arith; there = λ r h. absurd (not-suc-le-zero h); else = λ k h. refl }
-
-  -- the next place is as it was
-  pub not_placed : {was now : List A} {n : ℕ} → Placed d places v was now n → n < length places → Distinct places (length was) → get_or now (get_or places n 0) d ≡ get_or was (get_or places n 0) d
-  not_placed {was} {now} {n} w h o = w.else _ (λ r l e. o.once r n l h e)
-
-  pub placed_more : {was now : List A} {n : ℕ} {x : A} → Placed d places v was now n → n < length places → Distinct places (length was) → x ≡ v n → Placed d places v was (set now (get_or places n 0) x) (n + 1)
-  placed_more {was} {now} {n} {x} w h o e = record {
-    same = length-set now _ x ∙ w.same;
-    upto = omega arith;
-    there =
-        below_more (λ (r : ℕ). get_or (set now (get_or places n 0) x) (get_or places r 0) d ≡ v r) n
-        (λ r l. get_or-set_other now _ _ x d (λ q. o.once r n l h q) ∙ w.there r l)
-        (get_or-set_same now _ x d (omega (arith, o.within n h, w.same)) ∙ e);
-    else = λ k f. get_or-set_other now _ k x d (λ q. f n (omega arith) (sym q)) ∙ w.else k (λ r l. f r (omega arith));
-  }
-
-  pub placed_end : {was now : List A} {n : ℕ} → Placed d places v was now n → length places ≤ n → Placed d places v was now (length places)
-  placed_end {was} {now} {n} w h = let e : n ≡ length places = omega (arith, w.upto) in rw e at w
 
 -- the places of a kind, counted from a base, are named in order
 module _ {A : Type 0} (p : A → Bool) where

@@ -1,13 +1,11 @@
 -- The size of a signed number, nat_abs, which omega reads as a number; and a difference of two naturals, by which is larger.
 use Prim.Native.Nat.{ℕ, zero, suc, ◌+◌, ◌-◌, ◌*◌, ◌≤◌, ◌<◌, min, max}
 use mathlib.Core.Path.{◌≡◌, refl, ap, sym}
-use mathlib.Core.Bool.{Bool, true, false, not, cond}
 use native.Mathlib.Nat.{le_refl, mul-zero}
 use native.Mathlib.Decide.{dec_lt}
 use native.Mathlib.Omega.{arith}
 use borrow.Author.Tests.{le-ltb, lt-ltb}
-use lib.Dec.{T, ltb, ltb→lt}
-use lib.IntN.{ℤ, pos, negsuc, neg_ℤ, nat_abs, sub_ℕ, ◌+ℤ◌, ◌-ℤ◌, ◌*ℤ◌, neg_ℤ-+ℤ, pos-*ℤ-negsuc}
+use lib.IntN.{ℤ, pos, negsuc, neg_ℤ, nat_abs, ◌-ℤ◌, ◌*ℤ◌, neg_ℤ-+ℤ, pos-*ℤ-negsuc}
 use lib.Signed.{mag}
 
 pub mag_size : (z : ℤ) → mag z ≤ nat_abs z
@@ -18,31 +16,6 @@ pub neg_size : (z : ℤ) → nat_abs (neg_ℤ z) ≡ nat_abs z
 neg_size (pos zero) = refl
 neg_size (pos (suc n)) = refl
 neg_size (negsuc n) = refl
-
-cond_ind : (c : Bool) (x y : ℤ) (P : ℤ → Type 0) → (T c → P x) → (T (not c) → P y) → P (cond c x y)
-cond_ind true x y P f g = f tt
-cond_ind false x y P f g = g tt
-
-subℕ_size : (a b : ℕ) → nat_abs (sub_ℕ a b) ≤ a + b
-subℕ_size a b =
-    cond_ind (ltb a b) (negsuc (b - suc a)) (pos (a - b)) (λ z. nat_abs z ≤ a + b)
-    (λ t. let h : a < b = ltb→lt a b t in omega arith)
-    (λ t. omega arith)
-
-pub add_size : (a b : ℤ) → nat_abs (a +ℤ b) ≤ nat_abs a + nat_abs b
-add_size (pos a) (pos b) = le_refl (a + b)
-add_size (pos a) (negsuc b) = subℕ_size a (suc b)
-add_size (negsuc a) (pos b) = omega (arith, subℕ_size b (suc a))
-add_size (negsuc a) (negsuc b) = omega arith
-
-pub sub_size : (a b : ℤ) → nat_abs (a -ℤ b) ≤ nat_abs a + nat_abs b
-sub_size a b = rw neg_size at (add_size a (neg_ℤ b))
-
-pub mul_size : (a b : ℤ) → nat_abs (a *ℤ b) ≡ nat_abs a * nat_abs b
-mul_size (pos a) (pos b) = refl
-mul_size (pos a) (negsuc b) = neg_size (pos (a * suc b))
-mul_size (negsuc a) (pos b) = neg_size (pos (suc a * b))
-mul_size (negsuc a) (negsuc b) = refl
 
 -- ---- a difference of two naturals
 

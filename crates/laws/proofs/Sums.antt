@@ -1,15 +1,14 @@
 -- Laws of `sum`.
 use Prim.Native.Nat.{ℕ, zero, suc, ◌+◌, ◌*◌, ◌≤◌, ◌<◌, zero-le}
 use mathlib.Core.Path.{◌≡◌, refl, ap, sym, ◌∙◌}
-use mathlib.Core.Bool.{Bool, true, false, cond, ◌&&◌, and-true, and-false}
+use mathlib.Core.Bool.{Bool, true, false, cond}
 use mathlib.Core.Logic.{⊎_elim}
 use native.Mathlib.Omega.{arith}
-use native.Mathlib.Nat.{add-zero, le_refl, lt-suc_self, le_step, le_antisymm, le_of_eq, add-le-add, suc-mul, ne_of_lt, le-add_right, le_trans, mul-le-mul_right, eq-or-lt_of_le, le_of_suc-le-suc, not-suc-le-zero}
+use native.Mathlib.Nat.{le_refl, lt-suc_self, le_step, le_antisymm, le_of_eq, add-le-add, suc-mul, ne_of_lt, le-add_right, le_trans, mul-le-mul_right, eq-or-lt_of_le, le_of_suc-le-suc, not-suc-le-zero}
 use native.Mathlib.Numerals.{add-one}
 use lib.Dec.{eqb, ltb}
 use borrow.Author.Tests.{eqb-true, eqb-false, ltb-true, ltb-false, lt-ltb, le-ltb, ne_eqb}
 use Rattle.laws.specs.Sums.{sum}
-use Rattle.laws.specs.Tests.{each}
 
 -- a loop that sums: it begins, a round, it is done
 pub sum_none : (f : ℕ → ℕ) → 0 ≡ sum 0 f
@@ -125,11 +124,6 @@ pub bit_small : (b : Bool) → cond b 0 1 ≤ 1
 bit_small true = zero-le
 bit_small false = le_refl 1
 
-pub count_upto : (n : ℕ) (f : ℕ → Bool) → sum n (λ i. cond (f i) 0 1) ≤ n
-unfolding sum
-count_upto zero f = zero-le
-count_upto (suc n) f = omega (arith, count_upto n f, bit_small (f n))
-
 -- those that b holds of and the others are all
 pub count_both : (n : ℕ) (b : ℕ → Bool) → sum n (λ i. cond (b i) 0 1) + sum n (λ i. cond (b i) 1 0) ≡ n
 unfolding sum
@@ -139,13 +133,3 @@ count_both (suc n) b = go (b n) (sum n (λ i. cond (b i) 0 1)) (sum n (λ i. con
     go : (t : Bool) (p q : ℕ) → p + q ≡ n → (p + cond t 0 1) + (q + cond t 1 0) ≡ suc n
     go true p q e = omega arith
     go false p q e = omega arith
-
--- there are none just where each holds
-pub count_each : (n : ℕ) (f : ℕ → Bool) → each n f ≡ eqb (sum n (λ i. cond (f i) 0 1)) 0
-unfolding sum each
-count_each zero f = refl
-count_each (suc n) f = go (f n) (count_each n f)
-  where
-    go : (b : Bool) → each n f ≡ eqb (sum n (λ i. cond (f i) 0 1)) 0 → (each n f && b) ≡ eqb (sum n (λ i. cond (f i) 0 1) + cond b 0 1) 0
-    go true h = rw (and-true (each n f), add-zero (sum n (λ i. cond (f i) 0 1))) h
-    go false h = rw (and-false (each n f), ne_eqb (sum n (λ i. cond (f i) 0 1) + 1) 0 (λ e. omega arith))

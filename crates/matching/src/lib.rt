@@ -120,13 +120,6 @@ pub fn sheet_refusal(
     refuse_unless(cells_ok(&sheet[..tracks * reports]), Fault::Cells)
 }
 
-// A report or track number, as the index of a list: there is no `From` of u32 for usize.
-pub fn index(x: u32) -> usize
-    ensures { result ≡ x }
-{
-    x as usize
-}
-
 // A track is left out, or its report is there, the pair is admissible, and no track before it has the report. How many tracks the
 // sheet has does not matter to one of them, hence `sheet_of 0`.
 fn entry_ok(sheet: Sheet, pairing: &[u32], track: usize) -> bool
@@ -137,7 +130,7 @@ fn entry_ok(sheet: Sheet, pairing: &[u32], track: usize) -> bool
     if report == NONE {
         return true;
     }
-    let place = index(report);
+    let place = report as usize;
     if place >= sheet.reports {
         return false;
     }
@@ -215,7 +208,7 @@ fn counted(sheet: Sheet, pairing: &[u32], track: usize) -> u64
     if report == NONE {
         return u64::from(LEFT_OUT);
     }
-    u64::from(sheet.row(track)[index(report)])
+    u64::from(sheet.row(track)[report as usize])
 }
 
 // The total of a valid pairing.

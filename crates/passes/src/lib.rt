@@ -8,7 +8,7 @@ ghost use Rattle.laws.specs.Lists.{at};
 ghost use Rattle.matching.specs.Pairing.{none, left_out};
 ghost use Rattle.passes.specs.Cells.{IsCell, far, key_places, last_key, key, Keyed, RowBest, Fair, Relaxed, Labels, FromLabels, Low, Found, near, Near, Nearest, Searched, Paid, RaisedOne, PricesUp, DiscountsUp};
 
-use matching::{NONE, SCORE_END, index};
+use matching::{NONE, SCORE_END};
 
 // Above every label, and above what an admissible pair adds to one.
 pub const FAR: u32 = 1073741824;
@@ -26,13 +26,6 @@ const NEAR: u32 = KEY_SCORES - 1;
 pub struct Cheapest {
     pub score: u32,
     pub report: u32,
-}
-
-// Every entry becomes v.
-pub fn fill(a: &mut [u32], v: u32)
-    ensures { (length a.new ≡ length a.old) × ((k : ℕ) → k < length a.old → at a.new k ≡ v) }
-{
-    a.fill(v);
 }
 
 // What a track at this label offers to a report: `none` is far away.
@@ -142,7 +135,7 @@ fn nearest(labels: &[u32], closings: &[u32], cap: u32) -> usize
     if label >= cap {
         return labels.len();
     }
-    index(best % KEY_PLACES)
+    (best % KEY_PLACES) as usize
 }
 
 // The same from `front` on, where the reports before are closed.
@@ -177,7 +170,7 @@ fn raise_one(prices: &mut [u32], track: u32, rise: u32)
     ensures { RaisedOne prices.old track rise prices.new }
 {
     if rise > 0 {
-        let place = index(track);
+        let place = track as usize;
         prices[place] = prices[place] + rise;
     }
 }
@@ -263,7 +256,7 @@ fn first_free(cells: &[u32], owner: &[u32], score: u32) -> Option<usize>
     if best == LAST_KEY {
         return None;
     }
-    Some(index(best))
+    Some(best as usize)
 }
 
 // The report, of this score, if no track has it, or another such report.
@@ -271,7 +264,7 @@ pub fn free_report(cells: &[u32], owner: &[u32], score: u32, report: u32) -> Opt
     requires { (length owner.now ≡ length cells.now) × ((length cells.now ≤ key_places) × ((report < length cells.now) × (at cells.now report ≡ score))) }
     ensures { IfSome result (λ j. (j < length cells.now) × ((at cells.now j ≡ score) × (at owner.now j ≡ none))) }
 {
-    let place = index(report);
+    let place = report as usize;
     if owner[place] == NONE {
         return Some(place);
     }

@@ -14,7 +14,6 @@ ghost use Rattle.sector.specs.Sum.{Summable};
 
 use fates::Fate;
 use intake::Refusal;
-use matching::index;
 use records::Site;
 use walk::MissedCounts;
 
@@ -42,7 +41,7 @@ fn pair_score(sheet: &[u32], reports: usize, pairing: &[u32], track: usize) -> u
     if number == matching::NONE {
         return 0;
     }
-    let cell = track * reports + index(number);
+    let cell = track * reports + number as usize;
     sheet[cell]
 }
 

@@ -5,7 +5,7 @@
 ghost use Rattle.std.specs.Prelude.{◌≡◌, ◌+◌, ◌-◌, ◌*◌, ◌^◌, ◌<◌, ◌≤◌, length};
 ghost use Rattle.matching.specs.Pairing.{most_tracks, most_reports};
 
-use matching::{LEFT_OUT, MOST_REPORTS, MOST_TRACKS, NONE, SCORE_END, index};
+use matching::{LEFT_OUT, MOST_REPORTS, MOST_TRACKS, NONE, SCORE_END};
 use std::io;
 
 const SIZES: usize = 6;
@@ -143,7 +143,7 @@ fn outcome(cells: &[u32], case: Case, pairing: &[u32]) -> Pairs
 {
     let mut found = Pairs::default();
     for (track, report) in pairing.iter().enumerate() {
-        found = with_track(cells, case, track, index(*report), found);
+        found = with_track(cells, case, track, *report as usize, found);
     }
     found
 }

@@ -23,9 +23,8 @@ offset_bounds-sheet-cell c =
 
 pub bounds-sheet-cell : goal.bounds-sheet-cell
 bounds-sheet-cell c =
-    rw c.index.ensures (pair_cell_lem c.requires.summable c.requires.track_in c.if-number.false).there
+    (pair_cell_lem c.requires.summable c.requires.track_in c.if-number.false).there
 
 pub returns : goal.returns
 returns c =
-    rw c.index.ensures
     (score_some c.args.reports c.args.sheet.now c.args.pairing.now c.args.track c.if-number.false, (pair_cell_lem c.requires.summable c.requires.track_in c.if-number.false).score)
