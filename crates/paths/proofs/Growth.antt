@@ -4,7 +4,7 @@ use mathlib.Core.Path.{◌≡◌, refl, ◌∙◌}
 use mathlib.Core.Bool.{true, false, not}
 use lib.Dec.{ltb, eqb}
 use mathlib.Core.List.{List}
-use mathlib.Core.Logic.{inl, inr, ⊎_elim}
+use mathlib.Core.Logic.{◌⊎◌, inl, inr, ⊎_elim}
 use native.Mathlib.Omega.{arith}
 use borrow.Author.Tests.{ltb-true, lt-ltb, eq-eqb, ne_eqb}
 use lib.ListN.{length, length-set}
@@ -123,7 +123,7 @@ module _ {cells : List ℕ} {m track : ℕ} {pairing owner prices discounts : Li
       -- leaving' and leaver' are what leaving a track out then costs, and which
       pub passed_on : {leaving' leaver' : ℕ} {labels' via' : List ℕ} → let cost = at labels j + (left_out - at prices (at owner j)) in
           leaving' ≡ min cost leaving
-          → (cost < leaving → leaver' ≡ at owner j) × (leaving ≤ cost → leaver' ≡ leaver)
+          → ((cost < leaving) × (leaver' ≡ at owner j)) ⊎ ((leaving ≤ cost) × (leaver' ≡ leaver))
           → Offered cells m discounts (at labels j) (at prices (at owner j)) (at owner j) labels via labels' via'
           → Tree cells m (length prices) pairing owner prices discounts track leaving' leaver' (k + 1) labels' via' (closed_at closings j k)
       passed_on {leaving'} {leaver'} L K S' =
@@ -132,7 +132,7 @@ module _ {cells : List ℕ} {m track : ℕ} {pairing owner prices discounts : Li
           advance T next_in (pop_open next_in) G.numbers (pop_low next_in) (pop_near next_in) own_j
           (omega arith) (omega arith)
           (omega (arith, pop_low next_in))
-          (⊎_elim (λ g. inl (omega arith, K.1 g)) (λ g. inr (omega arith, K.0 g)) (le_or_lt leaving cost))
+          (⊎_elim (λ g. inr (omega arith, g.1)) (λ g. inl (omega arith, g.1)) K)
           S'
 
       -- front' is the first report from front on that is open

@@ -28,14 +28,15 @@ Good s n p = state.Good s.cells.now s.reports n p.pairing.now p.owner.now p.pric
 abbrev pub SearchLists : Sheet → Tree → Type 0
 SearchLists s t = state.SearchLists s.reports t.labels.now t.via.now t.closings.now
 
--- fair prices and a pairing, and the lists of a search
+-- what an insertion of many asks: fair prices and a pairing, and the lists of a search
 abbrev pub Ready : Sheet → Pairs → Tree → Type 0
 Ready s p t = Good s (length p.prices.now) p × SearchLists s t
 
--- and again, in the same lists
+-- and what it gives: the same, in the same lists
 abbrev pub ReadyAgain : Sheet → Pairs → Tree → Pairs → Tree → Type 0
 ReadyAgain s p t q u = (SamePairs p q × SameTree t u) × (Good s (length p.prices.now) q × SearchLists s u)
 
+-- what offer_from asks, and below what each function of `paths` asks and gives
 abbrev pub Offerable : Sheet → (front track label : ℕ) → Pairs → Tree → Type 0
 Offerable s front track label p t = state.Offerable s.cells.now s.reports front track label p.prices.now p.discounts.now t.labels.now t.via.now
 

@@ -7,7 +7,7 @@ ghost use Rattle.paths.specs.Held.{SamePairs, SameTree, SearchLists, Offerable, 
 ghost use Rattle.paths.specs.State.{is_taken};
 
 use matching::{LEFT_OUT, NONE, Sheet};
-use passes::{FAR, choose, nearest_from, open_from, raise_discounts, raise_prices, relax};
+use passes::{FAR, nearest_from, open_from, raise_discounts, raise_prices, relax};
 
 // What the engine holds of a pairing: each track's report and price, and each report's track and discount. A list that is only read is
 // taken out of a `&mut Pairs` or `&mut Tree` by `&mut *` too: by `&` the check would forget what stands in it.
@@ -131,7 +131,7 @@ fn pass_through(
     tree.closings[j] = FAR + s.closed;
     let passed = pairs.owner[j];
     let cost = label + (LEFT_OUT - pairs.prices[passed as usize]);
-    let leaver = choose(cost, s.leaving, passed, s.leaver);
+    let leaver = if cost < s.leaving { passed } else { s.leaver };
     let leaving = cost.min(s.leaving);
     let front = open_from(&mut *tree.closings, s.front);
     offer_from(sheet, front, passed, label, pairs, tree);

@@ -1,4 +1,4 @@
--- Tightenable that hold for the pairs of the first t tracks.
+-- Slacks that hold for the pairs of the first t tracks.
 use Rattle.std.specs.Prelude.{ℕ, ◌+◌, ◌≤◌, ◌<◌, ◌≡◌, List, length}
 use Rattle.laws.specs.Lists.{at}
 use Rattle.matching.specs.Pairing.{none}
