@@ -160,9 +160,7 @@ fn pairings(rt: &HostRuntime) -> io::Result<()> {
     let crossed = [1, 0];
     let prices = [20, 22];
     let discounts = [10, 0];
-    let check = fault_number(matching::check_pairing(
-        2, 2, &sheet, &crossed, &prices, &discounts,
-    ));
+    let check = fault_number(matching::check_pairing(2, 2, &sheet, &crossed, &prices, &discounts));
     println!(rt; "scores 10 20, 12 none; total 32; prices 20 22; discounts 10 0: check = {check}")?;
     let mut left_out = [0];
     let mut prices = [0];
