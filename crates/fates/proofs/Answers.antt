@@ -13,7 +13,7 @@ use Rattle.laws.proofs.Listed.{length_listed}
 use Rattle.laws.proofs.Fold.{length_outs}
 use Rattle.records.specs.Fields.{is_weak}
 use Rattle.records.specs.Bytes.{report_of, is_free}
-use Rattle.fates.specs.Fates.{paired, started, weak, full, Handed, free_slot, owner_of, shown_mark, slot_of, told_paired, told_by, told_unpaired, told_of, after_report, report_numbers, fates_of, slots_of, shown_of, count_of}
+use Rattle.fates.specs.Fates.{paired, started, weak, full, fate_number, mark, Handed, free_slot, owner_of, shown_mark, slot_of, told_paired, told_by, told_unpaired, told_of, after_report, report_numbers, fates_of, slots_of, shown_of, count_of}
 use Rattle.laws.proofs.Rounds.{told_at}
 use Rattle.fates.proofs.Telling.{fate_out, slot_out, shown_out}
 use Rattle.fates.proofs.Starts.{table_at, held_at}
@@ -50,11 +50,11 @@ pub data Fate : ℕ → Type 0 where
   is_weak_lem : Fate weak
   is_full : Fate full
 
-told_fate : (h : Handed) (P : List ℕ) (j : ℕ) (table : List (List ℕ)) → Fate (told_of h P j table).fate
-unfolding told_of told_paired told_unpaired
+told_fate : (h : Handed) (P : List ℕ) (j : ℕ) (table : List (List ℕ)) → Fate (fate_out h P j table)
+unfolding told_of told_paired told_unpaired fate_number
 told_fate h P j table = go (ltb (owner_of P j) (length P)) (is_weak (report_of (get_or h.batch j []))) (leb (length table) (free_slot table))
   where
-    go : (a b c : Bool) → Fate (cond a (told_paired (slot_of h P j) table) (told_by b c table)).fate
+    go : (a b c : Bool) → Fate (fate_number (cond a (told_paired (slot_of h P j) table) (told_by b c table)).fate)
     go true b c = is_paired
     go false true c = is_weak_lem
     go false false true = is_full
@@ -89,11 +89,11 @@ one_fate h P table = record {
 
 -- ---- shown
 
-told_shown : (h : Handed) (P : List ℕ) (j : ℕ) (table : List (List ℕ)) → (told_of h P j table).shown ≡ cond (ltb (owner_of P j) (length P)) (shown_mark (get_or table (slot_of h P j) [])) 0
-unfolding told_of told_paired told_unpaired
+told_shown : (h : Handed) (P : List ℕ) (j : ℕ) (table : List (List ℕ)) → shown_out h P j table ≡ cond (ltb (owner_of P j) (length P)) (shown_mark (get_or table (slot_of h P j) [])) 0
+unfolding told_of told_paired told_unpaired shown_mark
 told_shown h P j table = go (ltb (owner_of P j) (length P)) (is_weak (report_of (get_or h.batch j []))) (leb (length table) (free_slot table))
   where
-    go : (a b c : Bool) → (cond a (told_paired (slot_of h P j) table) (told_by b c table)).shown ≡ cond a (shown_mark (get_or table (slot_of h P j) [])) 0
+    go : (a b c : Bool) → mark (cond a (told_paired (slot_of h P j) table) (told_by b c table)).shown ≡ cond a (shown_mark (get_or table (slot_of h P j) [])) 0
     go true b c = refl
     go false true c = refl
     go false false true = refl

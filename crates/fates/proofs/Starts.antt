@@ -18,7 +18,7 @@ use Rattle.records.specs.Bytes.{bytes_of, report_of, bad_slot_field, is_free, Sl
 use Rattle.records.proofs.Packed.{packed_good}
 use Rattle.settling.specs.Settle.{started_of}
 use Rattle.settling.proofs.HandedOn.{started_served}
-use Rattle.fates.specs.Fates.{started, Handed, free_slot, owner_of, told_unpaired, after_unpaired, after_report, report_numbers, started_table}
+use Rattle.fates.specs.Fates.{started, fate_number, Handed, free_slot, owner_of, told_unpaired, after_unpaired, after_report, report_numbers, started_table}
 use Rattle.laws.proofs.Rounds.{all_keep}
 
 -- what a report that starts a track stores
@@ -29,7 +29,7 @@ new_slot h j = bytes_of (started_of (report_of (get_or h.batch j [])) h.sector)
 module _ (Q : List (List ℕ) → Type 0) (h : Handed) (P : List ℕ) (j : ℕ) (table : List (List ℕ)) where
   pub report_keeps : Q table → Q (set table (free_slot table) (new_slot h j)) → Q (after_report h P j table)
   unfolding after_report after_unpaired
-  report_keeps q s = go (ltb (owner_of P j) (length P)) (eqb (told_unpaired (report_of (get_or h.batch j [])) table).fate started)
+  report_keeps q s = go (ltb (owner_of P j) (length P)) (eqb (fate_number (told_unpaired (report_of (get_or h.batch j [])) table).fate) started)
     where
       go : (a b : Bool) → Q (cond a table (cond b (set table (free_slot table) (new_slot h j)) table))
       go true b = q

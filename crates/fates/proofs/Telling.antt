@@ -1,57 +1,114 @@
 -- What is told of one report, by its fate.
-use Prim.Native.Nat.{ℕ, ◌≤◌, ◌<◌}
-use mathlib.Core.Path.{◌≡◌, refl}
+use Prim.Native.Nat.{ℕ, ◌+◌, ◌≤◌, ◌<◌}
+use mathlib.Core.Path.{◌≡◌, refl, sym, ap, ◌∙◌}
 use mathlib.Core.Bool.{Bool, true, false, cond}
-use mathlib.Core.List.{List, []}
+use mathlib.Core.List.{List, [], ◌∷◌}
+use Rattle.std.proofs.Common.{Option, Some, None}
+use Rattle.std.specs.Option.{unwrap_or, option_map}
+use Rattle.std.specs.List.{position, count_by}
+use Rattle.std.proofs.lemmas.List.Recursion.{is_position_or_len, is_count_by}
+use Rattle.laws.specs.Lists.{first_index, indices_from, count}
+use Rattle.laws.proofs.Search.{first_upto}
 use native.Mathlib.Omega.{arith}
-use borrow.Author.Tests.{leb-false}
-use lib.Dec.{leb, ltb}
-use lib.ListN.{length, get_or, set}
+use borrow.Author.Tests.{ltb-true, ltb-false, lt-ltb, le-ltb, eqb-true, eqb-false, eq-eqb, ne_eqb}
+use lib.Dec.{eqb, leb, ltb}
+use lib.ListN.{length, get_or, drop, length-drop}
 use Rattle.records.specs.declared.Report.{Report}
 use Rattle.records.specs.Fields.{is_weak}
 use Rattle.records.specs.Bytes.{bytes_of, report_of, is_free}
 use Rattle.settling.specs.Settle.{started_of}
-use Rattle.fates.specs.Fates.{started, weak, full, free_slot, owner_of, no_track, told_unpaired, after_unpaired, told_of, after_report, Handed, Tellable}
-use Rattle.laws.proofs.Rounds.{first_later}
+use Rattle.fates.specs.Fates.{fate_number, slot_number, mark, free_slot, owner_of, told_unpaired, after_unpaired, told_of, after_report, Handed}
+use Rattle.laws.proofs.Rounds.{passed_from, first_later, count_from}
 
--- the fate of a report without a pair: the first that applies
-abbrev pub unpaired_fate : (weak? full? : Bool) → ℕ
-unpaired_fate weak? full? = cond weak? weak (cond full? full started)
+-- a test of equality either way round
+pub eqb_sym : (a b : ℕ) → eqb a b ≡ eqb b a
+eqb_sym a b = go (eqb b a) refl
+  where
+    go : (t : Bool) → eqb b a ≡ t → eqb a b ≡ t
+    go true e = eq-eqb _ _ (sym (eqb-true b a e))
+    go false e = ne_eqb _ _ (λ z. eqb-false b a e (sym z))
 
--- an unpaired report that starts no track, and one that does
-pub record Untracked (p : Report) (s fate : ℕ) (table : List (List ℕ)) : Type 0 where
-  pub told : no_track fate ≡ told_unpaired p table
-  pub after : table ≡ after_unpaired p s table
+-- an index that lies in a list so long, or none
+abbrev within : (long index : ℕ) → Option ℕ
+within long index = cond (ltb index long) (Some index) None
 
-pub record Tracked (p : Report) (s free fate : ℕ) (table : List (List ℕ)) : Type 0 where
-  pub room : free < length table
-  pub told : record { fate = fate; slot = free; shown = 0 } ≡ told_unpaired p table
-  pub after : set table free (bytes_of (started_of p s)) ≡ after_unpaired p s table
+-- an index that is there, and one that is not
+found_within : (long index : ℕ) {i : ℕ} → Some i ≡ within long index → (i ≡ index) × (ltb index long ≡ true)
+found_within long index {i} e = go (ltb index long) refl
+  where
+    go : (b : Bool) → ltb index long ≡ b → (i ≡ index) × (ltb index long ≡ true)
+    go true q = let some : Some i ≡ Some index = rw q at e in (cc, q)
+    go false q = let none : Some i ≡ None = rw q at e in absurd (cc)
+
+not_within : (long index : ℕ) → None ≡ within long index → ltb index long ≡ false
+not_within long index e = go (ltb index long) refl
+  where
+    go : (b : Bool) → ltb index long ≡ b → ltb index long ≡ false
+    go true q = let some : None ≡ Some index = rw q at e in absurd (cc)
+    go false q = q
+
+-- std's words for the first place of a kind, and for how many there are
+module _ {A : Type 0} (p q : A → Bool) (same : (x : A) → p x ≡ q x) where
+  position_within : (xs : List A) → position p xs ≡ within (length xs) (first_index q xs)
+  unfolding first_index
+  position_within xs =
+      rw (sym (is_position_or_len (first_index q) p refl (λ x xs. rw (same x) (ap (λ n. cond (q x) 0 n) (omega arith))) xs))
+
+  pub count_by_count : (xs : List A) → count_by p xs ≡ count q xs
+  unfolding indices_from
+  count_by_count xs = sym (is_count_by (count q) p refl (λ x xs. rw (same x) (go (q x) xs)) xs)
+    where
+      go : (b : Bool) (xs : List A) → length (cond b (0 ∷ indices_from q 1 xs) (indices_from q 1 xs)) ≡ cond b (1 + count q xs) (count q xs)
+      go true xs = rw (count_from q 1 0 xs) (omega arith)
+      go false xs = count_from q 1 0 xs
+
+-- the due track that has a report, and the lowest free slot
+position_owner : (P : List ℕ) (j : ℕ) → position (λ number. eqb number j) P ≡ within (length P) (owner_of P j)
+unfolding owner_of
+position_owner P j = position_within _ (eqb j) (λ number. eqb_sym number j) P
+
+position_free : (table : List (List ℕ)) → position is_free table ≡ within (length table) (free_slot table)
+unfolding free_slot
+position_free table = position_within is_free is_free (λ slot. refl) table
+
+pub owner_found : (P : List ℕ) (j : ℕ) {rank : ℕ} → Some rank ≡ position (λ number. eqb number j) P → (rank ≡ owner_of P j) × (ltb (owner_of P j) (length P) ≡ true)
+owner_found P j e = found_within (length P) (owner_of P j) (e ∙ position_owner P j)
+
+pub no_owner : (P : List ℕ) (j : ℕ) → None ≡ position (λ number. eqb number j) P → ltb (owner_of P j) (length P) ≡ false
+no_owner P j e = not_within (length P) (owner_of P j) (e ∙ position_owner P j)
+
+pub free_found : (table : List (List ℕ)) {k : ℕ} → Some k ≡ position is_free table → (k ≡ free_slot table) × (k < length table)
+free_found table e =
+    let w = found_within (length table) (free_slot table) (e ∙ position_free table) in
+    (w.0, omega (arith, w.0, ltb-true _ _ w.1))
+
+pub none_free : (table : List (List ℕ)) → None ≡ position is_free table → length table ≤ free_slot table
+none_free table e = ltb-false _ _ (not_within (length table) (free_slot table) (e ∙ position_free table))
+
+-- slots that are known not to be free may be passed
+pub position_past : (table : List (List ℕ)) (from : ℕ) → from ≤ free_slot table → position is_free table ≡ option_map (λ k. from + k) (position is_free (drop from table))
+unfolding free_slot
+position_past table from h =
+    let ahead : from + free_slot (drop from table) ≡ free_slot table = (passed_from is_free table from h).ahead in
+    rw (position_free table, position_free (drop from table)) (go (ltb (free_slot (drop from table)) (length (drop from table))) refl ahead)
+  where
+    go : (b : Bool) → ltb (free_slot (drop from table)) (length (drop from table)) ≡ b → from + free_slot (drop from table) ≡ free_slot table → within (length table) (free_slot table) ≡ option_map (λ k. from + k) (cond b (Some (free_slot (drop from table))) None)
+    go true q ahead = rw (lt-ltb (free_slot table) (length table) (omega (arith, ltb-true _ _ q, length-drop from table, ahead)), ahead)
+    go false q ahead = rw (le-ltb (free_slot table) (length table) (omega (arith, ltb-false _ _ q, length-drop from table, ahead, h, first_upto is_free table)))
+
+-- or the table's length
+pub lowest_or_length : (table : List (List ℕ)) → unwrap_or (position is_free table) (length table) ≡ free_slot table
+unfolding free_slot
+lowest_or_length table = rw (position_free table) (go (ltb (free_slot table) (length table)) refl)
+  where
+    go : (b : Bool) → ltb (free_slot table) (length table) ≡ b → unwrap_or (cond b (Some (free_slot table)) None) (length table) ≡ free_slot table
+    go true q = refl
+    go false q = omega (arith, first_upto is_free table, ltb-false _ _ q)
 
 module _ (p : Report) (s : ℕ) (table : List (List ℕ)) where
-  pub untracked : {w : Bool} {free fate : ℕ} → w ≡ is_weak p → free ≡ free_slot table → fate ≡ unpaired_fate w (leb (length table) free) → (fate ≡ started → ⊥) → Untracked p s fate table
-  unfolding told_unpaired after_unpaired
-  untracked {w} {free} {fate} d g e n = go w (leb (length table) free) refl refl
-    where
-      go : (x y : Bool) → w ≡ x → leb (length table) free ≡ y → Untracked p s fate table
-      go true y a b = let k : fate ≡ weak = rw a at e in record { told = rw (← d, a, k); after = rw (← d, a) }
-      go false true a b =
-          let k : fate ≡ full = rw (a, b) at e in
-          record { told = rw (← d, a, ← g, b, k); after = rw (← d, a, ← g, b) }
-      go false false a b = absurd (n (rw (a, b) at e))
-
-  pub tracked : {w : Bool} {free fate : ℕ} → w ≡ is_weak p → free ≡ free_slot table → fate ≡ unpaired_fate w (leb (length table) free) → fate ≡ started → Tracked p s free fate table
-  unfolding told_unpaired after_unpaired
-  tracked {w} {free} {fate} d g e k = go w (leb (length table) free) refl refl
-    where
-      go : (x y : Bool) → w ≡ x → leb (length table) free ≡ y → Tracked p s free fate table
-      go true y a b = let z : fate ≡ weak = rw a at e in absurd (omega arith)
-      go false true a b = let z : fate ≡ full = rw (a, b) at e in absurd (omega arith)
-      go false false a b = record { room = leb-false _ _ b; told = rw (← d, a, ← g, b, k); after = rw (← d, a, ← g, b) }
-
   -- a table has no lower free slot after an unpaired report
   pub unpaired_free : free_slot table ≤ free_slot (after_unpaired p s table)
-  unfolding told_unpaired after_unpaired free_slot
+  unfolding told_unpaired after_unpaired free_slot fate_number
   unpaired_free = go (is_weak p) (leb (length table) (free_slot table)) refl refl
     where
       go : (w f : Bool) → is_weak p ≡ w → leb (length table) (free_slot table) ≡ f → free_slot table ≤ free_slot (after_unpaired p s table)
@@ -68,22 +125,12 @@ report_free h P j table = go (ltb (owner_of P j) (length P))
     go true = omega arith
     go false = unpaired_free (report_of (get_or h.batch j [])) h.sector table
 
--- what the code counts on depends on the table's length alone
-pub tellable_still : {h : Handed} {P : List ℕ} {was table : List (List ℕ)} → length table ≡ length was → Tellable h P was → Tellable h P table
-tellable_still {h} {P} {was} {table} e w = record {
-  few_slots = rw e w.few_slots;
-  few_reports = w.few_reports;
-  sector_in = w.sector_in;
-  number_each = w.number_each;
-  due_lies = λ rank l. rw e (w.due_lies rank l);
-}
-
 -- the three answers of a report
 abbrev pub fate_out : Handed → List ℕ → ℕ → List (List ℕ) → ℕ
-fate_out h P j table = (told_of h P j table).fate
+fate_out h P j table = fate_number (told_of h P j table).fate
 
 abbrev pub slot_out : Handed → List ℕ → ℕ → List (List ℕ) → ℕ
-slot_out h P j table = (told_of h P j table).slot
+slot_out h P j table = slot_number (told_of h P j table).slot
 
 abbrev pub shown_out : Handed → List ℕ → ℕ → List (List ℕ) → ℕ
-shown_out h P j table = (told_of h P j table).shown
+shown_out h P j table = mark (told_of h P j table).shown

@@ -1,5 +1,5 @@
 -- The fate of each report, its slot, and whether it is shown (01, 'After pairing').
-use Rattle.std.specs.Prelude.{ℕ, ◌≤◌, ◌<◌, ◌≡◌, Bool, cond, List, [], leb, ltb, eqb, length, get_or, set}
+use Rattle.std.specs.Prelude.{ℕ, ◌≤◌, ◌<◌, ◌≡◌, Bool, false, cond, Option, Some, None, unwrap_or, List, [], leb, ltb, eqb, length, get_or, set}
 use Rattle.laws.specs.Lists.{first_index, after_all, outs, count, numbers}
 use Rattle.records.specs.declared.Report.{Report}
 use Rattle.records.specs.Fields.{is_weak}
@@ -7,6 +7,8 @@ use Rattle.records.specs.Bytes.{track_of, bytes_of, report_of, is_free}
 use Rattle.numbers.specs.Scales.{sectors}
 use Rattle.settling.specs.Settle.{started_of}
 use Rattle.intake.specs.Refusals.{most_slots, most_batch}
+use Rattle.fates.specs.declared.Fate.{Fate}
+use Rattle.fates.specs.declared.Fate.TheVariants.{Paired, Started, Weak, Full}
 use Rattle.fates.specs.declared.Told.{Told}
 
 -- fates, as they are written (0 is never a fate)
@@ -25,6 +27,19 @@ full = 4
 -- the slot of a report that has none
 abbrev pub no_slot : ℕ
 no_slot = 65535
+
+-- what is told of a report, as the lists of fates, slots and shown marks have it
+unfoldable pub fate_number : Fate → ℕ
+fate_number Paired = paired
+fate_number Started = started
+fate_number Weak = weak
+fate_number Full = full
+
+abbrev pub slot_number : Option ℕ → ℕ
+slot_number slot = unwrap_or slot no_slot
+
+abbrev pub mark : Bool → ℕ
+mark shown = cond shown 1 0
 
 -- a track is shown from its third update on
 abbrev pub shown_from : ℕ
@@ -48,8 +63,11 @@ unfoldable pub owner_of : List ℕ → ℕ → ℕ
 owner_of P j = first_index (eqb j) P
 
 -- shown: paired, updates now 3 or more
+unfoldable pub is_shown : List ℕ → Bool
+is_shown slot = leb shown_from (track_of slot).updates
+
 unfoldable pub shown_mark : List ℕ → ℕ
-shown_mark slot = cond (leb shown_from (track_of slot).updates) 1 0
+shown_mark slot = mark (is_shown slot)
 
 -- the slot of the due track that has report j
 unfoldable pub slot_of : Handed → List ℕ → ℕ → ℕ
@@ -57,16 +75,16 @@ slot_of h P j = get_or h.due (owner_of P j) 0
 
 -- a paired report: its track's slot
 unfoldable pub told_paired : ℕ → List (List ℕ) → Told
-told_paired k table = record { fate = paired; slot = k; shown = shown_mark (get_or table k []) }
+told_paired k table = record { fate = Paired; slot = Some k; shown = is_shown (get_or table k []) }
 
 -- a report that has no track
-abbrev pub no_track : ℕ → Told
-no_track fate = record { fate = fate; slot = no_slot; shown = 0 }
+abbrev pub no_track : Fate → Told
+no_track fate = record { fate = fate; slot = None; shown = false }
 
 -- an unpaired report: weak, or with no free slot full; another starts a track in the lowest free slot
 abbrev pub told_by : (weak? full? : Bool) → List (List ℕ) → Told
 told_by weak? full? table =
-    cond weak? (no_track weak) (cond full? (no_track full) (record { fate = started; slot = free_slot table; shown = 0 }))
+    cond weak? (no_track Weak) (cond full? (no_track Full) (record { fate = Started; slot = Some (free_slot table); shown = false }))
 
 unfoldable pub told_unpaired : Report → List (List ℕ) → Told
 told_unpaired p table = told_by (is_weak p) (leb (length table) (free_slot table)) table
@@ -74,7 +92,7 @@ told_unpaired p table = told_by (is_weak p) (leb (length table) (free_slot table
 -- and the table after it; s is the sector served
 unfoldable pub after_unpaired : Report → ℕ → List (List ℕ) → List (List ℕ)
 after_unpaired p s table =
-    cond (eqb (told_unpaired p table).fate started) (set table (free_slot table) (bytes_of (started_of p s))) table
+    cond (eqb (fate_number (told_unpaired p table).fate) started) (set table (free_slot table) (bytes_of (started_of p s))) table
 
 -- what is told of report j, with the table as the reports before it left it
 unfoldable pub told_of : Handed → List ℕ → ℕ → List (List ℕ) → Told
@@ -95,13 +113,13 @@ unfoldable pub started_table : Handed → List ℕ → List (List ℕ) → List 
 started_table h P table = after_all (after_report h P) (report_numbers h) table
 
 unfoldable pub fates_of : Handed → List ℕ → List (List ℕ) → List ℕ
-fates_of h P table = outs (after_report h P) (λ j t. (told_of h P j t).fate) (report_numbers h) table
+fates_of h P table = outs (after_report h P) (λ j t. fate_number (told_of h P j t).fate) (report_numbers h) table
 
 unfoldable pub slots_of : Handed → List ℕ → List (List ℕ) → List ℕ
-slots_of h P table = outs (after_report h P) (λ j t. (told_of h P j t).slot) (report_numbers h) table
+slots_of h P table = outs (after_report h P) (λ j t. slot_number (told_of h P j t).slot) (report_numbers h) table
 
 unfoldable pub shown_of : Handed → List ℕ → List (List ℕ) → List ℕ
-shown_of h P table = outs (after_report h P) (λ j t. (told_of h P j t).shown) (report_numbers h) table
+shown_of h P table = outs (after_report h P) (λ j t. mark (told_of h P j t).shown) (report_numbers h) table
 
 -- how many reports have a fate
 unfoldable pub count_of : ℕ → List ℕ → ℕ

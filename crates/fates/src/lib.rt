@@ -1,80 +1,75 @@
 // What becomes of each report: paired, started, weak, full.
 #![tactic(auto)]
 
-ghost use Rattle.std.specs.Prelude.{◌≡◌, cond, ◌++◌, ◌≤◌, ◌<◌, eqb, length, take, drop};
+ghost use Rattle.std.specs.Prelude.{◌≡◌, ◌++◌, ◌≤◌, ◌<◌, ◌==◌, length, drop, position};
 ghost use Rattle.numbers.specs.Scales.{sectors};
+ghost use Rattle.records.specs.Bytes.{is_free};
 ghost use Rattle.intake.specs.Refusals.{most_slots, most_batch};
-ghost use Rattle.fates.specs.Fates.{started, handed, free_slot, owner_of, shown_mark, told_unpaired, after_unpaired};
+ghost use Rattle.fates.specs.Fates.{handed, free_slot, is_shown, no_track, told_unpaired, after_unpaired, fate_number};
 ghost use Rattle.fates.specs.Fates.{told_of, after_report, started_table, fates_of, slots_of, shown_of, count_of, Tellable, RoomToTell};
 
 use records::Report;
 
-pub const PAIRED: u8 = 1;
+// What became of a report, by its number in the list of fates.
+#[derive(Clone, Copy, Debug, PartialEq, Eq)]
+pub enum Fate {
+    Paired = 1,
+    Started = 2,
+    Weak = 3,
+    Full = 4,
+}
 
-pub const STARTED: u8 = 2;
-
-pub const WEAK: u8 = 3;
-
-pub const FULL: u8 = 4;
-
-// The slot of a report that has none.
+// The slot of a report that has none, in the list of slots.
 const NO_SLOT: u16 = 65_535;
 
 const SHOWN_FROM: u8 = 3;
 
 // What is told of one report.
-#[derive(Clone, Copy)]
+#[derive(Clone, Copy, Debug, PartialEq, Eq)]
 pub struct Told {
-    pub fate: u8,
-    pub slot: u16,
-    pub shown: u8,
+    pub fate: Fate,
+    pub slot: Option<u16>,
+    pub shown: bool,
 }
 
-// The rank of the due track that has report j, or the number of due tracks.
-fn owner_of(pairing: &[u32], j: u32) -> usize
-    ensures { result ≡ owner_of pairing.now j }
+// The rank of the due track that has report j.
+fn owner_of(pairing: &[u32], j: u32) -> Option<usize>
+    ensures { result ≡ position (λ number. number == j) pairing.now }
 {
-    let mut rank: usize = 0;
-    while rank < pairing.len() {
-        if pairing[rank] == j {
-            return rank;
-        }
-        rank += 1;
-    }
-    rank
+    pairing.iter().position(|number| *number == j)
 }
 
-// The lowest free slot, or the table's length: none below `from` is free.
-fn free_from(table: &[[u8; records::SLOT_BYTES]], from: usize) -> usize
+fn first_free(table: &[[u8; records::SLOT_BYTES]]) -> Option<usize>
+    ensures { result ≡ position is_free table.now }
+{
+    table
+        .iter()
+        .position(|slot| slot[records::MARK_AT] == records::FREE)
+}
+
+// The lowest free slot; none below `from` is free.
+fn free_from(table: &[[u8; records::SLOT_BYTES]], from: usize) -> Option<usize>
     requires { from ≤ free_slot table.now }
-    ensures { result ≡ free_slot table.now }
+    ensures { result ≡ position is_free table.now }
 {
-    let mut k = from;
-    while k < table.len() {
-        let slot = table[k];
-        if slot[records::MARK_AT] == records::FREE {
-            return k;
-        }
-        k += 1;
-    }
-    k
+    Some(from + first_free(&table[from..])?)
 }
 
-fn shown_mark(slot: [u8; records::SLOT_BYTES]) -> u8
-    ensures { result ≡ shown_mark slot }
+fn is_shown(slot: [u8; records::SLOT_BYTES]) -> bool
+    ensures { result ≡ is_shown slot }
 {
-    let t = records::unpack(slot);
-    if SHOWN_FROM <= t.updates { 1 } else { 0 }
+    SHOWN_FROM <= records::unpack(slot).updates
 }
 
-// The first of two fates that applies; else the report starts a track.
-fn first_fate(one: bool, one_fate: u8, other: bool, other_fate: u8) -> u8
-    ensures { result ≡ cond one one_fate (cond other other_fate started) }
+// A report that has no track.
+fn no_track(fate: Fate) -> Told
+    ensures { result ≡ no_track fate }
 {
-    if one {
-        return one_fate;
+    Told {
+        fate,
+        slot: None,
+        shown: false,
     }
-    if other { other_fate } else { STARTED }
 }
 
 // A report without a pair; `free` is the lowest free slot.
@@ -82,27 +77,26 @@ fn tell_unpaired(
     table: &mut [[u8; records::SLOT_BYTES]],
     sector: u8,
     p: Report,
-    free: usize,
+    free: Option<usize>,
 ) -> Told
-    requires { (length table.old ≤ most_slots) × (sector < sectors) × (free ≡ free_slot table.old) }
+    requires { (length table.old ≤ most_slots) × (sector < sectors) × (free ≡ position is_free table.old) }
     ensures told { result ≡ told_unpaired p table.old }
     ensures table_after { table.new ≡ after_unpaired p sector table.old }
 {
     let weak = records::is_weak(p);
-    let full = table.len() <= free;
-    let fate = first_fate(weak, WEAK, full, FULL);
-    if fate != STARTED {
-        return Told {
-            fate,
-            slot: NO_SLOT,
-            shown: 0,
-        };
+    if weak {
+        return no_track(Fate::Weak);
     }
-    table[free] = records::pack(settling::started(p, sector));
-    Told {
-        fate,
-        slot: free as u16,
-        shown: 0,
+    match free {
+        Some(k) => {
+            table[k] = records::pack(settling::started(p, sector));
+            Told {
+                fate: Fate::Started,
+                slot: Some(k as u16),
+                shown: false,
+            }
+        }
+        None => no_track(Fate::Full),
     }
 }
 
@@ -113,26 +107,25 @@ fn tell_report(
     batch: &[[u8; records::REPORT_BYTES]],
     due: &[usize],
     pairing: &[u32],
-    free: usize,
+    free: Option<usize>,
     j: usize,
 ) -> Told
     requires tellable { Tellable (handed due.now sector batch.now) pairing.now table.old }
-    requires next_free { (free ≡ free_slot table.old) × (j < length batch.now) }
+    requires next_free { (free ≡ position is_free table.old) × (j < length batch.now) }
     ensures told { result ≡ told_of (handed due.now sector batch.now) pairing.now j table.old }
     ensures table_after { table.new ≡ after_report (handed due.now sector batch.now) pairing.now j table.old }
 {
-    let rank = owner_of(pairing, j as u32);
-    if rank < pairing.len() {
-        let k = due[rank];
-        let slot = table[k];
-        return Told {
-            fate: PAIRED,
-            slot: k as u16,
-            shown: shown_mark(slot),
-        };
+    match owner_of(pairing, j as u32) {
+        Some(rank) => {
+            let k = due[rank];
+            Told {
+                fate: Fate::Paired,
+                slot: Some(k as u16),
+                shown: is_shown(table[k]),
+            }
+        }
+        None => tell_unpaired(table, sector, records::unpack_report(batch[j]), free),
     }
-    let report = batch[j];
-    tell_unpaired(table, sector, records::unpack_report(report), free)
 }
 
 // Every report in batch order, from the table as pairing left it. `due` lists the due tracks' slots as the call found them,
@@ -154,35 +147,24 @@ pub fn tell_reports(
         × (slots.new ≡ slots_of (handed due.now sector batch.now) pairing.now table.old ++ drop (length batch.now) slots.old)
         × (shown.new ≡ shown_of (handed due.now sector batch.now) pairing.now table.old ++ drop (length batch.now) shown.old) }
 {
-    let mut free: usize = 0;
-    let mut j: usize = 0;
-    while j < batch.len() {
-        free = free_from(table, free);
+    let mut from: usize = 0;
+    for j in 0..batch.len() {
+        let free = free_from(table, from);
+        from = free.unwrap_or(table.len());
         let told = tell_report(table, sector, batch, due, pairing, free, j);
-        fates[j] = told.fate;
-        slots[j] = told.slot;
-        shown[j] = told.shown;
-        j += 1;
+        fates[j] = told.fate as u8;
+        slots[j] = told.slot.unwrap_or(NO_SLOT);
+        shown[j] = u8::from(told.shown);
     }
-}
-
-// A report with the fate counts 1.
-fn one_if(fate: u8, given: u8) -> u32
-    ensures { (result ≡ cond (eqb fate given) 1 0) × (result ≤ 1) }
-{
-    if fate == given { 1 } else { 0 }
 }
 
 // How many of the reports have a fate.
-pub fn count_fate(fates: &[u8], reports: usize, fate: u8) -> u32
-    requires { (reports ≤ length fates.now) × (reports ≤ most_batch) }
-    ensures { result ≡ count_of fate (take reports fates.now) }
+pub fn count_fate(fates: &[u8], fate: Fate) -> u32
+    requires { length fates.now ≤ most_batch }
+    ensures { result ≡ count_of (fate_number fate) fates.now }
 {
-    let mut n: u32 = 0;
-    let mut j: usize = 0;
-    while j < reports {
-        n += one_if(fate, fates[j]);
-        j += 1;
-    }
-    n
+    fates
+        .iter()
+        .map(|told| u32::from(*told == fate as u8))
+        .sum()
 }

@@ -17,7 +17,7 @@ use Rattle.intake.specs.Refusals.{slot_bad, report_bad, report_elsewhere, none_o
 use Rattle.scoresheet.specs.Cells.{tracks_of, reports_of}
 use Rattle.settling.specs.Settle.{updated_of}
 use Rattle.walk.specs.Table.{due_rank, paired_slot, settled_slot, settled_table}
-use Rattle.fates.specs.Fates.{owner_of, shown_mark, slot_of, told_paired, told_of, after_report, report_numbers, shown_of}
+use Rattle.fates.specs.Fates.{owner_of, is_shown, slot_of, told_paired, told_of, after_report, report_numbers, shown_of}
 use Rattle.sector.specs.declared.Counts.{Counts}
 use Rattle.intake.specs.declared.Refusal.{Refusal}
 use Rattle.std.specs.Prelude.{Result}
@@ -49,7 +49,7 @@ chosen_is_kept c h =
     entries 0 2 c.pairing (h.number_each ∙ tracks_are) ∙ cc (b.0, b.1)
 
 kept_is_shown : shown_of (reports_in scene) kept (settled_table scene kept) ++ drop (reports_of scene) (0 ∷ 0 ∷ []) ≡ both_shown
-unfolding shown_of report_numbers outs after_report told_of told_paired owner_of slot_of shown_mark first_index settled_table due_rank settled_slot paired_slot updated_of due_slots indices_from slot_due table batch bytes_of report_bytes_of track_of report_of reports_of
+unfolding shown_of report_numbers outs after_report told_of told_paired owner_of slot_of is_shown first_index settled_table due_rank settled_slot paired_slot updated_of due_slots indices_from slot_due table batch bytes_of report_bytes_of track_of report_of reports_of
 kept_is_shown = refl
 
 pub call_shows_the_glider : (l' : Lent) (answer : Result Counts Refusal) → ServesSector scene lists l' answer → l'.shown ≡ both_shown

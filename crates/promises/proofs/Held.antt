@@ -23,7 +23,7 @@ use Rattle.scoresheet.specs.Cells.{tracks_of}
 use Rattle.walk.specs.Table.{paired_slot, missed_bytes, missed_slot, aged_slot, settled_slot, settled_table, dropped_one, missed_at, missed_sum, dropped_count}
 use Rattle.walk.proofs.Settled.{settled_length, rank_of, due_at_rank, settled_at}
 use Rattle.fates.specs.declared.Told.{Told}
-use Rattle.fates.specs.Fates.{started, Handed, free_slot, owner_of, slot_of, told_paired, told_by, told_unpaired, after_unpaired, told_of, after_report, report_numbers, started_table, fates_of, count_of}
+use Rattle.fates.specs.Fates.{started, fate_number, Handed, free_slot, owner_of, slot_of, told_paired, told_by, told_unpaired, after_unpaired, told_of, after_report, report_numbers, started_table, fates_of, count_of}
 use Rattle.fates.proofs.Telling.{fate_out}
 use Rattle.sector.specs.declared.Counts.{Counts}
 use Rattle.sector.specs.Serve.{Lent, Chosen, Choice, reports_in, fates_in, tally, counts_of, after_of, ServedWith}
@@ -126,20 +126,20 @@ start_adds p s table l =
     count_set is_held table (first_index is_free table) (bytes_of (started_of p s)) [] l (free_not_held (get_or table (first_index is_free table) []) (first_found is_free table [] l)) (held_bytes (started_of p s) refl)
 
 -- a report without a pair holds one slot more exactly where its fate is started
-unpaired_adds : (p : Report) (s : ℕ) (table : List (List ℕ)) → held_count (after_unpaired p s table) ≡ held_count table + cond (eqb started (told_unpaired p table).fate) 1 0
-unfolding after_unpaired told_unpaired
+unpaired_adds : (p : Report) (s : ℕ) (table : List (List ℕ)) → held_count (after_unpaired p s table) ≡ held_count table + cond (eqb started (fate_number (told_unpaired p table).fate)) 1 0
+unfolding after_unpaired told_unpaired fate_number
 unpaired_adds p s table = go (is_weak p) (leb (length table) (free_slot table)) refl
   where
-    go : (w f : Bool) → leb (length table) (free_slot table) ≡ f → held_count (cond (eqb (told_by w f table).fate started) (set table (free_slot table) (bytes_of (started_of p s))) table) ≡ held_count table + cond (eqb started (told_by w f table).fate) 1 0
+    go : (w f : Bool) → leb (length table) (free_slot table) ≡ f → held_count (cond (eqb (fate_number (told_by w f table).fate) started) (set table (free_slot table) (bytes_of (started_of p s))) table) ≡ held_count table + cond (eqb started (fate_number (told_by w f table).fate)) 1 0
     go true f e = omega arith
     go false true e = omega arith
     go false false e = start_adds p s table (leb-false _ _ e)
 
 report_adds : (h : Handed) (P : List ℕ) (j : ℕ) (table : List (List ℕ)) → held_count (after_report h P j table) ≡ held_count table + cond (eqb started (fate_out h P j table)) 1 0
-unfolding after_report told_of told_paired
+unfolding after_report told_of told_paired fate_number
 report_adds h P j table = go (ltb (owner_of P j) (length P))
   where
-    go : (b : Bool) → held_count (cond b table (after_unpaired (report_of (get_or h.batch j [])) h.sector table)) ≡ held_count table + cond (eqb started (cond {A = Told} b (told_paired (slot_of h P j) table) (told_unpaired (report_of (get_or h.batch j [])) table)).fate) 1 0
+    go : (b : Bool) → held_count (cond b table (after_unpaired (report_of (get_or h.batch j [])) h.sector table)) ≡ held_count table + cond (eqb started (fate_number (cond {A = Told} b (told_paired (slot_of h P j) table) (told_unpaired (report_of (get_or h.batch j [])) table)).fate)) 1 0
     go true = omega arith
     go false = unpaired_adds (report_of (get_or h.batch j [])) h.sector table
 

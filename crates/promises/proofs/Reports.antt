@@ -25,7 +25,7 @@ use Rattle.scoresheet.proofs.Due.{due_lies, due_is_due}
 use Rattle.laws.proofs.Places.{rising}
 use Rattle.walk.specs.Table.{paired_slot, settled_slot, settled_table}
 use Rattle.walk.proofs.Settled.{rank_of, due_at_rank, settled_at}
-use Rattle.fates.specs.Fates.{paired, shown_from, Handed, free_slot, owner_of, shown_mark, slot_of, told_paired, told_by, told_unpaired, told_of, after_report, report_numbers, fates_of, slots_of}
+use Rattle.fates.specs.Fates.{paired, shown_from, fate_number, is_shown, Handed, free_slot, owner_of, shown_mark, slot_of, told_paired, told_by, told_unpaired, told_of, after_report, report_numbers, fates_of, slots_of}
 use Rattle.laws.proofs.Rounds.{told_at}
 use Rattle.fates.proofs.Telling.{fate_out, slot_out}
 use Rattle.fates.proofs.Starts.{table_at}
@@ -77,25 +77,25 @@ owner_there P j rank l e =
 
 -- ---- what one report is told
 
-told_paired_lem : (h : Handed) (P : List ℕ) (j : ℕ) (table : List (List ℕ)) → owner_of P j < length P → ((told_of h P j table).fate ≡ paired) × ((told_of h P j table).slot ≡ slot_of h P j)
-unfolding told_of told_paired
+told_paired_lem : (h : Handed) (P : List ℕ) (j : ℕ) (table : List (List ℕ)) → owner_of P j < length P → (fate_out h P j table ≡ paired) × (slot_out h P j table ≡ slot_of h P j)
+unfolding told_of told_paired fate_number
 told_paired_lem h P j table l = rw (lt-ltb (owner_of P j) (length P) l) (refl, refl)
 
-told_unpaired_lem : (h : Handed) (P : List ℕ) (j : ℕ) (table : List (List ℕ)) → length P ≤ owner_of P j → (told_of h P j table).fate ≡ paired → ⊥
-unfolding told_of told_unpaired
+told_unpaired_lem : (h : Handed) (P : List ℕ) (j : ℕ) (table : List (List ℕ)) → length P ≤ owner_of P j → fate_out h P j table ≡ paired → ⊥
+unfolding told_of told_unpaired fate_number
 told_unpaired_lem h P j table l = rw (le-ltb (owner_of P j) (length P) l) (go (is_weak (report_of (get_or h.batch j []))) (leb (length table) (free_slot table)))
   where
-    go : (b c : Bool) → (told_by b c table).fate ≡ paired → ⊥
+    go : (b c : Bool) → fate_number (told_by b c table).fate ≡ paired → ⊥
     go true c e = omega arith
     go false true e = omega arith
     go false false e = omega arith
 
 module _ (i : Input) (P : List ℕ) (j : ℕ) (here : j < reports_of i) where
-  pub fate_is : fate_at i P j ≡ (told_of (reports_in i) P j (table_at (reports_in i) P j (settled_table i P))).fate
+  pub fate_is : fate_at i P j ≡ fate_out (reports_in i) P j (table_at (reports_in i) P j (settled_table i P))
   unfolding fates_in fates_of report_numbers reports_of
   fate_is = told_at (after_report (reports_in i) P) (fate_out (reports_in i) P) (length i.batch) (λ k. k) (settled_table i P) j 0 here
 
-  pub slot_is : told_slot_at i P j ≡ (told_of (reports_in i) P j (table_at (reports_in i) P j (settled_table i P))).slot
+  pub slot_is : told_slot_at i P j ≡ slot_out (reports_in i) P j (table_at (reports_in i) P j (settled_table i P))
   unfolding slots_of report_numbers reports_of
   slot_is = told_at (after_report (reports_in i) P) (slot_out (reports_in i) P) (length i.batch) (λ k. k) (settled_table i P) j 0 here
 
@@ -168,7 +168,7 @@ unfolding track_of bytes_of
 bytes_updates t = refl
 
 updated_shown : (t : Track) (p : Report) (s : ℕ) → shown_mark (bytes_of (updated_of t p s)) ≡ cond (leb updates_before t.updates) 1 0
-unfolding shown_mark
+unfolding shown_mark is_shown
 updated_shown t p s =
     rw (bytes_updates (updated_of t p s), updated_updates t p s)
     (⊎_elim

@@ -28,7 +28,8 @@ use Rattle.scoresheet.proofs.Due.{due_lies, due_is_due}
 use Rattle.walk.specs.Table.{missed_slot, aged_slot, settled_slot, settled_table}
 use Rattle.walk.proofs.Slots.{missed_kept, missed_dropped}
 use Rattle.walk.proofs.Settled.{settled_length, settled_at}
-use Rattle.fates.specs.Fates.{started, Handed, free_slot, owner_of, told_paired, told_unpaired, told_of, after_unpaired, after_report, report_numbers, started_table}
+use Rattle.fates.specs.Fates.{started, fate_number, Handed, free_slot, owner_of, told_paired, told_unpaired, told_of, after_unpaired, after_report, report_numbers, started_table}
+use Rattle.fates.proofs.Telling.{fate_out, slot_out}
 use Rattle.fates.proofs.Starts.{report_keeps, table_at, length_at, start_elsewhere, held_at, held_slots_kept, new_slot}
 use Rattle.sector.specs.declared.Counts.{Counts}
 use Rattle.sector.specs.Serve.{Lent, reports_in, after_of, ServedWith}
@@ -74,17 +75,17 @@ free_found table l = first_found is_free table [] l
 module _ (h : Handed) (P : List ℕ) (j : ℕ) (table : List (List ℕ)) where
   record Start : Type 0 where
     pub room : free_slot table < length table
-    pub fate : (told_of h P j table).fate ≡ started
-    pub slot : (told_of h P j table).slot ≡ free_slot table
+    pub fate : fate_out h P j table ≡ started
+    pub slot : slot_out h P j table ≡ free_slot table
     pub after : after_report h P j table ≡ set table (free_slot table) (new_slot h j)
 
   record NoStart : Type 0 where
-    pub fate : (told_of h P j table).fate ≡ started → ⊥
+    pub fate : fate_out h P j table ≡ started → ⊥
     pub after : after_report h P j table ≡ table
 
   -- a report starts a track in the lowest free slot, or is told another fate and leaves the table as it is
   starts_or_not : Start ⊎ NoStart
-  unfolding told_of told_paired told_unpaired after_report after_unpaired
+  unfolding told_of told_paired told_unpaired after_report after_unpaired fate_number
   starts_or_not = go (ltb (owner_of P j) (length P)) refl (is_weak (report_of (get_or h.batch j []))) refl (leb (length table) (free_slot table)) refl
     where
       go : (a : Bool) → ltb (owner_of P j) (length P) ≡ a → (b : Bool) → is_weak (report_of (get_or h.batch j [])) ≡ b → (c : Bool) → leb (length table) (free_slot table) ≡ c → Start ⊎ NoStart

@@ -1,7 +1,7 @@
 // The sector call: one call serves one sector.
 #![tactic(auto)]
 
-ghost use Rattle.std.specs.Prelude.{◌≡◌, ◌*◌, ◌<◌, ◌≤◌, length, take};
+ghost use Rattle.std.specs.Prelude.{◌≡◌, ◌*◌, ◌<◌, ◌≤◌, length};
 ghost use Rattle.numbers.specs.Sectors.{next_sector};
 ghost use Rattle.intake.specs.Refusals.{input, most_due, most_batch, due_slots, Ready};
 ghost use Rattle.sector.specs.Steps.{Pairable, PairedUp, PairedOff, Room};
@@ -12,6 +12,7 @@ ghost use Rattle.laws.specs.Tests.{holds};
 ghost use Rattle.matching.specs.Pairing.{score_end, sheet_of, score_or, sum_of_scores};
 ghost use Rattle.sector.specs.Sum.{Summable};
 
+use fates::Fate;
 use intake::Refusal;
 use matching::index;
 use records::Site;
@@ -56,18 +57,18 @@ fn score_sum(sheet: &[u32], reports: usize, pairing: &[u32]) -> u32
     sum
 }
 
-// The counts of the answer.
-fn count_all(fates: &[u8], reports: usize, missed: MissedCounts, scores: u32) -> Counts
-    requires { (reports ≤ length fates.now) × (reports ≤ most_batch) }
-    ensures { result ≡ tally (take reports fates.now) missed.coasted missed.dropped scores }
+// The counts of the answer; `fates` has one a report.
+fn count_all(fates: &[u8], missed: MissedCounts, scores: u32) -> Counts
+    requires { length fates.now ≤ most_batch }
+    ensures { result ≡ tally fates.now missed.coasted missed.dropped scores }
 {
     Counts {
-        paired: fates::count_fate(fates, reports, fates::PAIRED),
+        paired: fates::count_fate(fates, Fate::Paired),
         coasted: missed.coasted,
         dropped: missed.dropped,
-        started: fates::count_fate(fates, reports, fates::STARTED),
-        weak: fates::count_fate(fates, reports, fates::WEAK),
-        full: fates::count_fate(fates, reports, fates::FULL),
+        started: fates::count_fate(fates, Fate::Started),
+        weak: fates::count_fate(fates, Fate::Weak),
+        full: fates::count_fate(fates, Fate::Full),
         score_sum: scores,
     }
 }
@@ -106,7 +107,7 @@ fn settle(
         prices,
     );
     fates::tell_reports(table, sector, batch, due, pairing, fates, slots, shown);
-    count_all(fates, reports, missed, scores)
+    count_all(&fates[..reports], missed, scores)
 }
 
 // Score and pair: the sheet's cells, a report number and a price a due track, a discount a report.

@@ -9,7 +9,7 @@ use lib.ListN.{length, get_or, take, length-map}
 use lib.Seq.{length-take-le, ext_get_or}
 use Rattle.laws.specs.Places.{Distinct, Placed}
 use Rattle.laws.proofs.InPlace.{map_at}
-use Rattle.laws.proofs.Places.{not_placed, indices_distinct}
+use Rattle.laws.proofs.Places.{indices_distinct}
 use Rattle.laws.proofs.Sums.{sum_none, sum_more, sum_done}
 use Rattle.laws.proofs.Tests.{clash}
 use Rattle.laws.specs.Lists.{at}
@@ -22,7 +22,7 @@ use Rattle.intake.specs.Refusals.{Input, due_slots, most_slots, most_due, Ready}
 use Rattle.scoresheet.specs.Cells.{due_slot}
 use Rattle.scoresheet.proofs.Due.{due_lies, due_is_due, due_well_formed}
 use Rattle.walk.specs.Table.{rested_slot, settled_slot, slot_price, no_price, settled_table, slot_prices, coasted_one, dropped_one, missed_at, missed_sum}
-use Rattle.walk.specs.Ready.{TableReady, SlotReady, DueReady, DuePriced}
+use Rattle.walk.specs.Ready.{TableReady, DueReady, DuePriced}
 use Rattle.walk.proofs.Settled.{rank_of, due_at_rank, settled_length, settled_at, prices_length, price_at}
 
 -- ---- the due slots settled one by one, the others aged
@@ -55,33 +55,10 @@ due_settles {i} {due} {P} {track_prices} {prices} {table} r q e = rw (e, q.due_i
   few = rw (length-map i.table rested_slot) r.few_slots;
 })
 
--- the next due slot is as it was, and its step may go on
-pub record NextSettled (sector : ℕ) (batch : List (List ℕ)) (P due : List ℕ) (was now : List (List ℕ)) (rank : ℕ) : Type 0 where
-  pub within : get_or due rank 0 < length now
-  pub early : get_or due rank 0 < most_slots
-  pub same : get_or now (get_or due rank 0) [] ≡ get_or was (get_or due rank 0) []
-  pub settles : SlotReady sector batch P (get_or now (get_or due rank 0) []) rank
-
-pub next_settled : {sector : ℕ} {batch : List (List ℕ)} {P due : List ℕ} {was now : List (List ℕ)} {v : ℕ → List ℕ} {rank : ℕ} → DueReady sector batch P due was → Placed [] due v was now rank → rank < length due → NextSettled sector batch P due was now rank
-next_settled {sector} {batch} {P} {due} {was} {now} {v} {rank} q w h =
-    let e : get_or now (get_or due rank 0) [] ≡ get_or was (get_or due rank 0) [] = not_placed [] w h q.distinct in
-    record {
-      within = omega (arith, q.distinct.within rank h, w.same);
-      early = omega (arith, q.distinct.within rank h, q.few);
-      same = e;
-      settles = rw e (q.settles rank h);
-    }
-
 pub due_priced : {i : Input} {due P track_prices prices : List ℕ} → Ready i → TableReady i due P track_prices prices → DuePriced due track_prices (take (length i.table) prices)
 due_priced {i} {due} {P} {track_prices} {prices} r q =
     let l : length (take (length i.table) prices) ≡ length i.table = length-take-le _ prices q.room in
     rw q.due_is (record { distinct = rw l (due_distinct i); priced = q.priced; few = rw l r.few_slots })
-
--- prices that are cleared have as much room
-pub still_priced : {due track_prices prices cleared : List ℕ} → cleared ≡ map no_price prices → DuePriced due track_prices prices → DuePriced due track_prices cleared
-still_priced {due} {track_prices} {prices} {cleared} e w =
-    let l : length cleared ≡ length prices = rw e (length-map prices no_price) in
-    record { distinct = rw l w.distinct; priced = w.priced; few = rw l w.few }
 
 -- a slot that no entry of the due list names is not due
 module _ (i : Input) where

@@ -1,7 +1,7 @@
 // The table after pairing: each slot settled or aged, with its price.
 #![tactic(auto)]
 
-ghost use Rattle.std.specs.Prelude.{◌≡◌, false, cond, [], ◌++◌, map, ◌≤◌, ◌<◌, eqb, length, get_or, drop};
+ghost use Rattle.std.specs.Prelude.{◌≡◌, cond, [], ◌++◌, map, ◌≤◌, ◌<◌, eqb, length, get_or, drop};
 ghost use Rattle.numbers.specs.Scales.{sectors};
 ghost use Rattle.records.specs.Fields.{WellFormed, Sound};
 ghost use Rattle.laws.specs.Lists.{at};
@@ -10,7 +10,7 @@ ghost use Rattle.settling.specs.Settle.{Settleable, without_pair};
 ghost use Rattle.matching.specs.Pairing.{none};
 ghost use Rattle.intake.specs.Refusals.{input, due_slots, Ready};
 ghost use Rattle.laws.specs.Places.{Placed};
-ghost use Rattle.walk.specs.Table.{aged_slot, missed_slot, paired_slot, rested_slot, settled_slot, no_price, settled_table, slot_prices};
+ghost use Rattle.walk.specs.Table.{missed_slot, paired_slot, rested_slot, settled_slot, no_price, settled_table, slot_prices};
 ghost use Rattle.walk.specs.Table.{coasted_one, dropped_one, coasted_count, dropped_count};
 ghost use Rattle.walk.specs.Ready.{TableReady, SlotReady, DueReady, DuePriced};
 
@@ -18,18 +18,17 @@ use records::Site;
 use settling::Missed;
 
 // How many of the missed tracks coast, and how many are dropped.
-#[derive(Clone, Copy)]
+#[derive(Clone, Copy, Debug, PartialEq, Eq)]
 pub struct MissedCounts {
     pub coasted: u32,
     pub dropped: u32,
 }
 
-// A slot that is not due: a held track waits one call less.
-fn age_slot(mut slot: [u8; records::SLOT_BYTES]) -> [u8; records::SLOT_BYTES]
-    requires { slot_due slot ≡ false }
-    ensures { result ≡ aged_slot slot }
+// A slot that is due stays for its service; in any other a held track waits one call less.
+fn rested_slot(mut slot: [u8; records::SLOT_BYTES]) -> [u8; records::SLOT_BYTES]
+    ensures { result ≡ rested_slot slot }
 {
-    if slot[records::MARK_AT] != records::HELD {
+    if records::slot_due(slot) || slot[records::MARK_AT] != records::HELD {
         return slot;
     }
     let aged = settling::aged(records::unpack(slot));
@@ -78,36 +77,20 @@ fn settled_slot(
     ensures { result ≡ settled_slot sector batch.now pairing.now slot rank }
 {
     if !records::slot_due(slot) {
-        return age_slot(slot);
+        return rested_slot(slot);
     }
     let number = pairing[rank];
     if number == matching::NONE {
         return missed_slot(slot, sector);
     }
-    let j = number as usize;
-    let report = batch[j];
-    paired_slot(slot, report, sector)
-}
-
-// A slot that is due stays for its service; any other ages.
-fn rested_slot(slot: [u8; records::SLOT_BYTES]) -> [u8; records::SLOT_BYTES]
-    ensures { result ≡ rested_slot slot }
-{
-    if records::slot_due(slot) {
-        return slot;
-    }
-    age_slot(slot)
+    paired_slot(slot, batch[number as usize], sector)
 }
 
 fn age_table(table: &mut [[u8; records::SLOT_BYTES]])
     ensures { table.new ≡ map rested_slot table.old }
 {
-    let mut k: usize = 0;
-    while k < table.len() {
-        let slot = table[k];
-        let rested = rested_slot(slot);
-        table[k] = rested;
-        k += 1;
+    for slot in table.iter_mut() {
+        *slot = rested_slot(*slot);
     }
 }
 
@@ -122,24 +105,8 @@ fn settle_due(
     requires { DueReady sector batch.now pairing.now due.now table.old }
     ensures { Placed [] due.now (λ rank. settled_slot sector batch.now pairing.now (get_or table.old (get_or due.now rank 0) []) rank) table.old table.new (length due.now) }
 {
-    let mut rank: usize = 0;
-    while rank < due.len() {
-        let k = due[rank];
-        let slot = table[k];
-        let settled = settled_slot(slot, rank, batch, pairing, sector);
-        table[k] = settled;
-        rank += 1;
-    }
-}
-
-// No slot has a price yet.
-fn clear_prices(prices: &mut [u32])
-    ensures { prices.new ≡ map no_price prices.old }
-{
-    let mut k: usize = 0;
-    while k < prices.len() {
-        prices[k] = 0;
-        k += 1;
+    for (rank, k) in due.iter().enumerate() {
+        table[*k] = settled_slot(table[*k], rank, batch, pairing, sector);
     }
 }
 
@@ -147,11 +114,8 @@ fn price_due(due: &[usize], track_prices: &[u32], prices: &mut [u32])
     requires { DuePriced due.now track_prices.now prices.old }
     ensures { Placed 0 due.now (at track_prices.now) prices.old prices.new (length due.now) }
 {
-    let mut rank: usize = 0;
-    while rank < due.len() {
-        let k = due[rank];
-        prices[k] = track_prices[rank];
-        rank += 1;
+    for (k, price) in due.iter().zip(track_prices) {
+        prices[*k] = *price;
     }
 }
 
@@ -160,7 +124,7 @@ fn price_slots(due: &[usize], track_prices: &[u32], prices: &mut [u32])
     requires { DuePriced due.now track_prices.now prices.old }
     ensures { Placed 0 due.now (at track_prices.now) (map no_price prices.old) prices.new (length due.now) }
 {
-    clear_prices(prices);
+    prices.fill(0);
     price_due(due, track_prices, prices);
 }
 
@@ -228,14 +192,10 @@ pub fn count_missed(
 {
     let mut coasted: u32 = 0;
     let mut dropped: u32 = 0;
-    let mut rank: usize = 0;
-    while rank < due.len() {
-        let k = due[rank];
-        let slot = table[k];
-        let one = missed_one(slot, pairing[rank], sector);
+    for (rank, k) in due.iter().enumerate() {
+        let one = missed_one(table[*k], pairing[rank], sector);
         coasted += one.coasted;
         dropped += one.dropped;
-        rank += 1;
     }
     MissedCounts { coasted, dropped }
 }

@@ -1,22 +1,37 @@
-use mathlib.Core.List.{[]}
-use borrow.Author.Tests.{eq-eqb, ne_eqb}
-use Rattle.laws.proofs.Search.{passed_more, passed_stop, passed_end}
-use Rattle.fates.specs.Fates.{free_slot}
-use Rattle.laws.proofs.Rounds.{passed_from}
+use Prim.Native.Nat.{◌≤◌}
+use mathlib.Core.Path.{sym, ◌∙◌}
+use Rattle.std.proofs.lemmas.List.{take_rest}
+use lib.ListN.{length}
+use native.Mathlib.Omega.{arith}
+use borrow.Author.Rules.{rules}
 use Rattle.records.specs.Bytes.{is_free}
+use Rattle.laws.proofs.Search.{first_upto}
+use Rattle.fates.specs.Fates.{free_slot}
+use Rattle.fates.proofs.Telling.{position_past}
 use Rattle.fates.proofs.free_from.Goals as goal
 
-pub loop-k-init : goal.loop-k-init
+pub offset_bounds-table-from : goal.offset_bounds-table-from
 unfolding free_slot
-loop-k-init c = passed_from is_free _ _ c.requires
+offset_bounds-table-from c =
+    let fits : c.args.from ≤ length c.args.table.now = omega (arith, c.requires, first_upto is_free c.args.table.now) in
+    search rules
 
-pub returns-then-slot-eq-FREE : goal.returns-then-slot-eq-FREE
+pub slice_bounds-first_free-count : goal.slice_bounds-first_free-count
 unfolding free_slot
-returns-then-slot-eq-FREE c = passed_stop is_free [] c.loop-k.invariant c.loop-k-test.true (eq-eqb _ _ c.if-slot-eq-FREE.true)
+slice_bounds-first_free-count c = omega (arith, c.requires, first_upto is_free c.args.table.now)
 
-pub loop-k-preserved : goal.loop-k-preserved
-loop-k-preserved c = passed_more is_free [] c.loop-k.invariant c.loop-k-test.true (ne_eqb _ _ c.if-slot-eq-FREE.false)
+pub slice_bounds-first_free-start : goal.slice_bounds-first_free-start
+unfolding free_slot
+slice_bounds-first_free-start c =
+    let fits : c.args.from ≤ length c.args.table.now = omega (arith, c.requires, first_upto is_free c.args.table.now) in
+    search rules
+
+pub returns-in_err-first_free : goal.returns-in_err-first_free
+returns-in_err-first_free c =
+    let beyond = sym c.in_err-first_free.was ∙ rw (take_rest c.args.table.now c.args.from) at c.first_free.ensures in
+    rw (position_past c.args.table.now c.args.from c.requires, ← beyond) c.from_residual.ensures
 
 pub returns : goal.returns
-unfolding free_slot
-returns c = passed_end is_free c.loop-k.invariant c.loop-k-test.false
+returns c =
+    let beyond = sym c.in_ok-first_free.was ∙ rw (take_rest c.args.table.now c.args.from) at c.first_free.ensures in
+    rw (position_past c.args.table.now c.args.from c.requires, ← beyond)

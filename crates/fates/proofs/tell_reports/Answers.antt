@@ -1,20 +1,28 @@
-use mathlib.Core.Path.{refl, ap, ◌∙◌}
-use native.Mathlib.Omega.{arith}
-use Rattle.laws.proofs.Fold.{stepped_none, answered_none}
+use mathlib.Core.Path.{◌≡◌, refl, ap, ◌∙◌}
+use Prim.Native.Nat.{◌+◌}
+use mathlib.Core.Bool.{Bool, true, false}
+use mir.Val.{bool_byte}
+use Rattle.std.specs.Option.{unwrap_or}
+use denote.Enum.Declared.{tag_of}
+use Rattle.fates.specs.contracts.Fate.{the_type}
+use Rattle.fates.specs.declared.Fate.{Fate}
+use Rattle.fates.specs.declared.Fate.TheVariants.{Paired, Started, Weak, Full}
 use Rattle.fates.specs.declared.Told.{Told}
-use Rattle.fates.specs.Fates.{report_numbers, started_table, fates_of, slots_of, shown_of}
+use Rattle.fates.specs.Fates.{fate_number, no_slot, mark, report_numbers, started_table, fates_of, slots_of, shown_of}
 use Rattle.laws.proofs.Rounds.{round_more, round_upto, round_end, told_more, told_end}
-use Rattle.fates.proofs.Telling.{report_free, tellable_still}
+use Rattle.fates.proofs.Telling.{report_free, lowest_or_length}
 use Rattle.fates.proofs.tell_reports.Goals as goal
 
-pub loop-j-init : goal.loop-j-init
-loop-j-init c = record { same = refl; below = omega arith; tables = stepped_none _ _ _; fate = answered_none _ _ _ _ _; slot = answered_none _ _ _ _ _; show = answered_none _ _ _ _ _ }
+as_number : (fate : Fate) → tag_of the_type fate + 1 ≡ fate_number fate
+unfolding fate_number
+as_number Paired = refl
+as_number Started = refl
+as_number Weak = refl
+as_number Full = refl
 
-pub free_from-free-requires : goal.free_from-free-requires
-free_from-free-requires c = c.loop-j.invariant.below
-
-pub tell_report-told-requires : goal.tell_report-told-requires
-tell_report-told-requires c = record { tellable = tellable_still c.loop-j.invariant.same c.requires.tellable; next_free = (c.free_from-free.ensures, c.loop-j-test.true) }
+as_mark : (shown : Bool) → bool_byte shown ≡ mark shown
+as_mark true = refl
+as_mark false = refl
 
 pub loop-j-preserved : goal.loop-j-preserved
 loop-j-preserved c =
@@ -25,24 +33,12 @@ loop-j-preserved c =
     let room = c.requires.room_to_tell in
     record {
       same = c.tell_report-told.auto.table ∙ i.same;
-      below = rw (e, c.free_from-free.ensures) (report_free _ _ _ _);
+      below = rw (e, c.unwrap_or-from.ensures, c.free_from-free.ensures, lowest_or_length c.loop-j.table) (report_free _ _ _ _);
       tables = round_more _ i.tables l e;
-      fate = told_more _ _ i.fate l room.for_fates e (ap (λ (s : Told). s.fate) told);
-      slot = told_more _ _ i.slot l room.for_slots e (ap (λ (s : Told). s.slot) told);
-      show = told_more _ _ i.show l room.for_shown e (ap (λ (s : Told). s.shown) told);
+      fate = told_more _ _ i.fate l room.for_fates e (as_number _ ∙ ap (λ (s : Told). fate_number s.fate) told);
+      slot = told_more _ _ i.slot l room.for_slots e (c.unwrap_or.ensures ∙ ap (λ (s : Told). unwrap_or s.slot no_slot) told);
+      show = told_more _ _ i.show l room.for_shown e (c.from.ensures ∙ as_mark _ ∙ ap (λ (s : Told). mark s.shown) told);
     }
-
-pub shape_of-table : goal.shape_of-table
-shape_of-table c = c.loop-j.invariant.same
-
-pub shape_of-fates : goal.shape_of-fates
-shape_of-fates c = c.loop-j.invariant.fate.so.same
-
-pub shape_of-slots : goal.shape_of-slots
-shape_of-slots c = c.loop-j.invariant.slot.so.same
-
-pub shape_of-shown : goal.shape_of-shown
-shape_of-shown c = c.loop-j.invariant.show.so.same
 
 pub returns : goal.returns
 unfolding started_table fates_of slots_of shown_of report_numbers

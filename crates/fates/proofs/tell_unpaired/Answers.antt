@@ -1,27 +1,36 @@
+use mathlib.Core.Path.{sym, ◌∙◌}
 use native.Mathlib.Omega.{arith}
-use Rattle.fates.proofs.Telling.{untracked, tracked}
+use borrow.Author.Tests.{lt-leb, le-leb}
+use lib.ListN.{length}
 use Rattle.settling.specs.Settle.{started_of}
+use Rattle.fates.specs.Fates.{fate_number, free_slot, told_unpaired, after_unpaired}
+use Rattle.fates.proofs.Telling.{free_found, none_free}
 use Rattle.fates.proofs.tell_unpaired.Goals as goal
 
-pub returns-then-fate-ne-STARTED : goal.returns-then-fate-ne-STARTED
-returns-then-fate-ne-STARTED c =
-    let u = untracked c.args.p c.args.sector c.args.table.now c.is_weak-weak.ensures c.requires.2 c.first_fate-fate.ensures c.if-fate-ne-STARTED.true in
-    record { told = u.told; table_after = u.after }
+pub returns-then-weak : goal.returns-then-weak
+unfolding told_unpaired after_unpaired fate_number
+returns-then-weak c =
+    let weak = sym c.is_weak-weak.ensures ∙ c.if-weak.true in
+    record { told = rw (weak, c.no_track.ensures); table_after = rw weak }
 
 pub pack-requires : goal.pack-requires
 unfolding started_of
 pack-requires c = rw c.started.ensures (omega arith)
 
-pub offset_bounds-table-free : goal.offset_bounds-table-free
-offset_bounds-table-free c = omega (arith, c.requires.0, (tracked c.args.p c.args.sector c.args.table.now c.is_weak-weak.ensures c.requires.2 c.first_fate-fate.ensures c.if-fate-ne-STARTED.false).room)
+pub bounds-table-k : goal.bounds-table-k
+bounds-table-k c = (free_found _ (sym c.in-Some.is ∙ c.requires.2)).1
 
-pub bounds-table-free : goal.bounds-table-free
-bounds-table-free c = (tracked c.args.p c.args.sector _ c.is_weak-weak.ensures c.requires.2 c.first_fate-fate.ensures c.if-fate-ne-STARTED.false).room
+pub returns-in-Some : goal.returns-in-Some
+unfolding told_unpaired after_unpaired fate_number
+returns-in-Some c =
+    let weak = sym c.is_weak-weak.ensures ∙ c.if-weak.false in
+    let there = free_found c.args.table.now (sym c.in-Some.is ∙ c.requires.2) in
+    let room = lt-leb (length c.args.table.now) (free_slot c.args.table.now) (rw there.0 at there.1) in
+    record { told = rw (weak, room, there.0); table_after = rw (weak, room, there.0, c.pack.ensures, c.started.ensures) }
 
-pub overflow_cast-result : goal.overflow_cast-result
-overflow_cast-result c = omega (arith, c.requires.0, (tracked c.args.p c.args.sector c.args.table.now c.is_weak-weak.ensures c.requires.2 c.first_fate-fate.ensures c.if-fate-ne-STARTED.false).room)
-
-pub returns : goal.returns
-returns c =
-    let u = tracked _ _ _ c.is_weak-weak.ensures c.requires.2 c.first_fate-fate.ensures c.if-fate-ne-STARTED.false in
-    record { told = u.told; table_after = rw (c.pack.ensures, c.started.ensures) u.after }
+pub returns-in-None : goal.returns-in-None
+unfolding told_unpaired after_unpaired fate_number
+returns-in-None c =
+    let weak = sym c.is_weak-weak.ensures ∙ c.if-weak.false in
+    let full = le-leb (length c.args.table.now) (free_slot c.args.table.now) (none_free c.args.table.now (sym c.in-None.is ∙ c.requires.2)) in
+    record { told = rw (weak, full, c.no_track-in-None.ensures); table_after = rw (weak, full) }

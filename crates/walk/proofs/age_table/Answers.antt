@@ -2,14 +2,11 @@ use mathlib.Core.List.{[]}
 use Rattle.laws.proofs.InPlace.{mapped_none, mapped_more, mapped_end}
 use Rattle.walk.proofs.age_table.Goals as goal
 
-pub loop-k-init : goal.loop-k-init
-loop-k-init c = mapped_none _ _
+pub loop-slot-init : goal.loop-slot-init
+loop-slot-init c = mapped_none _ _
 
-pub loop-k-preserved : goal.loop-k-preserved
-loop-k-preserved c = mapped_more _ [] c.loop-k.invariant c.loop-k-test.true c.rested_slot-rested.ensures
-
-pub shape_of-table : goal.shape_of-table
-shape_of-table c = c.loop-k.invariant.same
+pub loop-slot-preserved : goal.loop-slot-preserved
+loop-slot-preserved c = mapped_more _ [] c.loop-slot.invariant (rw c.loop-slot.invariant.same c.loop-slot-test.true) c.rested_slot.ensures
 
 pub returns : goal.returns
-returns c = mapped_end _ c.loop-k.invariant c.loop-k-test.false
+returns c = mapped_end _ c.loop-slot.invariant (rw c.loop-slot.invariant.same c.loop-slot-test.false)

@@ -18,14 +18,6 @@ pub missed_one-one-requires : goal.missed_one-one-requires
 missed_one-one-requires c =
     record { settleable = (next_due c.requires.ready c.requires.due_listed.0 c.loop-rank-test.true).track; sector_in = c.requires.ready.sector_in }
 
-pub overflow_add-coasted : goal.overflow_add-coasted
-overflow_add-coasted c =
-    omega (arith, (next_due c.requires.ready c.requires.due_listed.0 c.loop-rank-test.true).few, c.loop-rank.invariant.few.0, c.missed_one-one.ensures.coasts.1)
-
-pub overflow_add-dropped : goal.overflow_add-dropped
-overflow_add-dropped c =
-    omega (arith, (next_due c.requires.ready c.requires.due_listed.0 c.loop-rank-test.true).few, c.loop-rank.invariant.few.1, c.missed_one-one.ensures.drops.1)
-
 pub loop-rank-preserved : goal.loop-rank-preserved
 loop-rank-preserved c =
     missed_more c.loop-rank.invariant c.loop-rank-test.true c.requires.due_listed.0 c.missed_one-one.ensures.coasts c.missed_one-one.ensures.drops

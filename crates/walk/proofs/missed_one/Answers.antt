@@ -3,15 +3,9 @@ use Rattle.settling.specs.Settle.{without_pair}
 use Rattle.settling.specs.declared.Missed.TheVariants.{Coasts, Dropped}
 use mathlib.Core.Path.{◌≡◌, refl}
 use Rattle.walk.specs.Table.{coasted_one, dropped_one}
-use borrow.Author.Tests.{eq-eqb, ne_eqb}
+use borrow.Author.Tests.{eq-eqb}
 use native.Mathlib.Omega.{arith}
 use Rattle.walk.proofs.missed_one.Goals as goal
-
-pub returns-then-number-ne-NONE : goal.returns-then-number-ne-NONE
-returns-then-number-ne-NONE c = rw (ne_eqb _ _ c.if-number-ne-NONE.true) (record { coasts = (refl, omega arith); drops = (refl, omega arith) })
-
-pub without_pair-outcome-requires : goal.without_pair-outcome-requires
-without_pair-outcome-requires c = record { settleable = rw c.unpack.ensures c.requires.settleable; sector_in = c.requires.sector_in }
 
 pub returns-in-Coasts : goal.returns-in-Coasts
 unfolding coasted_one dropped_one

@@ -3,11 +3,8 @@ use Rattle.walk.proofs.Slots.{missed_kept, missed_dropped, speeds_fit}
 use Rattle.settling.specs.declared.Missed.TheVariants.{Coasts, Dropped}
 use Rattle.settling.specs.Settle.{without_pair}
 use mathlib.Core.Path.{◌≡◌, ◌∙◌, sym}
-use Rattle.settling.proofs.HandedOn.{settleable, coasted_served}
+use Rattle.settling.proofs.HandedOn.{coasted_served}
 use Rattle.walk.proofs.missed_slot.Goals as goal
-
-pub without_pair-outcome-requires : goal.without_pair-outcome-requires
-without_pair-outcome-requires c = record { settleable = rw c.unpack.ensures (settleable c.requires.well_formed); sector_in = c.requires.sector_in }
 
 pub pack-requires : goal.pack-requires
 pack-requires c =

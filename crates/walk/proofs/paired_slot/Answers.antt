@@ -6,9 +6,6 @@ use Rattle.walk.specs.Table.{paired_slot}
 use Rattle.settling.proofs.HandedOn.{updated_served}
 use Rattle.walk.proofs.paired_slot.Goals as goal
 
-pub updated-requires : goal.updated-requires
-updated-requires c = rw (c.unpack_report-p.ensures, c.unpack-t.ensures) (record { settleable = c.requires.settleable; sound = c.requires.sound; sector_in = c.requires.sector_in })
-
 pub pack-requires : goal.pack-requires
 pack-requires c =
     let w : WellFormed c.updated.result (next_sector c.args.sector) = rw (c.updated.ensures, c.unpack_report-p.ensures) (updated_served c.unpack-t.result (report_of c.args.report) c.args.sector c.requires.sector_in c.requires.sound).well in

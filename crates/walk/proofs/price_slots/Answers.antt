@@ -1,8 +1,11 @@
-use Rattle.walk.proofs.Walks.{still_priced}
+use mathlib.Core.Path.{◌≡◌, refl, ◌∙◌}
+use mathlib.Core.List.{map}
+use borrow.Author.Rules.{rules}
+use Rattle.std.proofs.lemmas.Simd.{splat_is_map}
+use Rattle.walk.specs.Table.{no_price}
 use Rattle.walk.proofs.price_slots.Goals as goal
 
-pub price_due-requires : goal.price_due-requires
-price_due-requires c = still_priced c.clear_prices.ensures c.requires
-
 pub returns : goal.returns
-returns c = rw c.clear_prices.ensures at c.price_due.ensures
+returns c =
+    let cleared : c.fill.new.self ≡ map no_price c.args.prices.now = c.fill.ensures.after (search rules) ∙ splat_is_map _ _ 0 refl in
+    rw cleared at c.price_due.ensures

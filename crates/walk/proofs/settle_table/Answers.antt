@@ -1,13 +1,10 @@
 use Prim.Native.Nat.{ℕ}
 use mathlib.Core.List.{List, ◌++◌}
 use lib.ListN.{length, take, drop}
-use mathlib.Core.Path.{sym, ap}
+use mathlib.Core.Path.{ap}
 use Rattle.walk.proofs.Walks.{due_settles, due_priced, all_settled, all_priced}
 use lib.Seq.{length-take-le}
 use Rattle.walk.proofs.settle_table.Goals as goal
-
-pub slice_bounds-price_slots-end-2 : goal.slice_bounds-price_slots-end-2
-slice_bounds-price_slots-end-2 c = sym (length-take-le _ _ c.requires.table_ready.room)
 
 pub price_slots-requires : goal.price_slots-requires
 price_slots-requires c = due_priced c.requires.ready c.requires.table_ready

@@ -2,23 +2,15 @@ use borrow.Author.Tests.{eq-eqb, ne_eqb}
 use Rattle.scoresheet.proofs.Due.{due_track_lem}
 use Rattle.settling.proofs.HandedOn.{settleable}
 use Rattle.records.proofs.Checked.{sound}
-use native.Mathlib.Omega.{arith}
 use mathlib.Core.Path.{sym, ◌∙◌}
-use Rattle.walk.specs.Table.{settled_slot}
+use Rattle.walk.specs.Table.{rested_slot, settled_slot}
 use Rattle.walk.proofs.settled_slot.Goals as goal
 
-pub age_slot-requires : goal.age_slot-requires
-age_slot-requires c = sym c.slot_due.ensures ∙ c.if-not-slot_due.true
-
 pub returns-then-not-slot_due : goal.returns-then-not-slot_due
-unfolding settled_slot
-returns-then-not-slot_due c = rw (sym c.slot_due.ensures ∙ c.if-not-slot_due.true) c.age_slot.ensures
-
-pub offset_bounds-pairing-rank : goal.offset_bounds-pairing-rank
-offset_bounds-pairing-rank c = omega (arith, c.requires.ranked (sym c.slot_due.ensures ∙ c.if-not-slot_due.false))
-
-pub bounds-pairing-rank : goal.bounds-pairing-rank
-bounds-pairing-rank c = c.requires.ranked (sym c.slot_due.ensures ∙ c.if-not-slot_due.false)
+unfolding settled_slot rested_slot
+returns-then-not-slot_due c =
+    let d = sym c.slot_due.ensures ∙ c.if-not-slot_due.true in
+    rw d (rw d at c.rested_slot.ensures)
 
 pub missed_slot-requires : goal.missed_slot-requires
 missed_slot-requires c =
@@ -27,14 +19,6 @@ missed_slot-requires c =
 pub returns-then-number : goal.returns-then-number
 unfolding settled_slot
 returns-then-number c = rw (sym c.slot_due.ensures ∙ c.if-not-slot_due.false, eq-eqb _ _ c.if-number.true) c.missed_slot.ensures
-
-pub offset_bounds-batch-j : goal.offset_bounds-batch-j
-offset_bounds-batch-j c =
-    omega (arith, c.requires.there (sym c.slot_due.ensures ∙ c.if-not-slot_due.false) c.if-number.false)
-
-pub bounds-batch-j : goal.bounds-batch-j
-bounds-batch-j c =
-    c.requires.there (sym c.slot_due.ensures ∙ c.if-not-slot_due.false) c.if-number.false
 
 pub paired_slot-requires : goal.paired_slot-requires
 paired_slot-requires c =
