@@ -3,7 +3,7 @@
 
 ghost use Rattle.std.specs.Prelude.{◌≡◌, ◌*◌, ◌<◌, ◌≤◌, length};
 ghost use Rattle.numbers.specs.Sectors.{next_sector};
-ghost use Rattle.intake.specs.Refusals.{input, most_due, most_batch, due_slots, Ready};
+ghost use Rattle.intake.specs.Refusals.{input, input_in, most_due, most_batch, due_slots, Ready};
 ghost use Rattle.sector.specs.Steps.{Pairable, PairedUp, PairedOff, Room};
 ghost use Rattle.sector.specs.Settled.{SettledAs};
 ghost use Rattle.sector.specs.Serve.{lent, rooms, tally, ServedWith, ServesSector};
@@ -13,7 +13,7 @@ ghost use Rattle.matching.specs.Pairing.{score_end, sheet_of, score_or, sum_of_s
 ghost use Rattle.sector.specs.Sum.{Summable};
 
 use fates::Fate;
-use intake::Refusal;
+use intake::{Call, Refusal};
 use matching::index;
 use records::Site;
 use walk::MissedCounts;
@@ -76,9 +76,7 @@ fn count_all(fates: &[u8], missed: MissedCounts, scores: u32) -> Counts
 // After pairing: the table is settled, then the reports are told, and all is counted.
 fn settle(
     table: &mut [[u8; records::SLOT_BYTES]],
-    sector: u8,
-    site: Site,
-    batch: &[[u8; records::REPORT_BYTES]],
+    call: Call,
     due: &[usize],
     sheet: &[u32],
     pairing: &[u32],
@@ -88,48 +86,46 @@ fn settle(
     shown: &mut [u8],
     prices: &mut [u32],
 ) -> Counts
-    requires ready { Ready (input table.old sector site batch.now) }
-    requires paired_up { PairedUp (input table.old sector site batch.now) due.now sheet.now pairing.now track_prices.now }
-    requires room { Room (length table.old) (length batch.now) (length fates.old) (length slots.old) (length shown.old) (length batch.now) (length prices.old) }
-    ensures { SettledAs (input table.old sector site batch.now) pairing.now track_prices.now fates.old slots.old shown.old prices.old table.new fates.new slots.new shown.new prices.new result }
+    requires ready { Ready (input_in table.old call) }
+    requires paired_up { PairedUp (input_in table.old call) due.now sheet.now pairing.now track_prices.now }
+    requires room { Room (length table.old) (length call.batch.now) (length fates.old) (length slots.old) (length shown.old) (length call.batch.now) (length prices.old) }
+    ensures { SettledAs (input_in table.old call.entry) pairing.now track_prices.now fates.old slots.old shown.old prices.old table.new fates.new slots.new shown.new prices.new result }
 {
-    let reports = batch.len();
+    let reports = call.batch.len();
     let scores = score_sum(sheet, reports, pairing);
-    let missed = walk::count_missed(table, sector, site, batch, due, pairing);
-    walk::settle_table(
+    let missed = walk::count_missed(table, call, due, pairing);
+    walk::settle_table(table, call, due, pairing, track_prices, prices);
+    fates::tell_reports(
         table,
-        sector,
-        site,
-        batch,
+        call.sector,
+        call.batch,
         due,
         pairing,
-        track_prices,
-        prices,
+        fates,
+        slots,
+        shown,
     );
-    fates::tell_reports(table, sector, batch, due, pairing, fates, slots, shown);
     count_all(&fates[..reports], missed, scores)
 }
 
 // Score and pair: the sheet's cells, a report number and a price a due track, a discount a report.
 fn pair_up(
     table: &[[u8; records::SLOT_BYTES]],
-    sector: u8,
-    site: Site,
-    batch: &[[u8; records::REPORT_BYTES]],
+    call: Call,
     due: &[usize],
     sheet: &mut [u32],
     pairing: &mut [u32],
     track_prices: &mut [u32],
     discounts: &mut [u32],
 )
-    requires ready { Ready (input table.now sector site batch.now) }
-    requires pairable { Pairable (input table.now sector site batch.now) due.now sheet.old pairing.old track_prices.old discounts.old }
-    ensures { PairedOff (input table.now sector site batch.now) due.now sheet.new pairing.new track_prices.new discounts.old discounts.new }
+    requires ready { Ready (input_in table.now call) }
+    requires pairable { Pairable (input_in table.now call) due.now sheet.old pairing.old track_prices.old discounts.old }
+    ensures { PairedOff (input_in table.now call.entry) due.now sheet.new pairing.new track_prices.new discounts.old discounts.new }
 {
-    scoresheet::fill_rows(table, sector, site, batch, due, sheet);
+    scoresheet::fill_rows(table, call, due, sheet);
     engine::pair_sheet(
         due.len(),
-        batch.len(),
+        call.batch.len(),
         sheet,
         pairing,
         track_prices,
@@ -140,9 +136,7 @@ fn pair_up(
 // A call that is refused by nothing, with its due list and its working lists: score, pair, settle.
 fn serve_due(
     table: &mut [[u8; records::SLOT_BYTES]],
-    sector: u8,
-    site: Site,
-    batch: &[[u8; records::REPORT_BYTES]],
+    call: Call,
     due: &[usize],
     sheet: &mut [u32],
     pairing: &mut [u32],
@@ -153,29 +147,17 @@ fn serve_due(
     discounts: &mut [u32],
     prices: &mut [u32],
 ) -> Counts
-    requires ready { Ready (input table.old sector site batch.now) }
-    requires pairable { Pairable (input table.old sector site batch.now) due.now sheet.old pairing.old track_prices.old discounts.old }
-    requires room { Room (length table.old) (length batch.now) (length fates.old) (length slots.old) (length shown.old) (length discounts.old) (length prices.old) }
-    ensures { ServedWith (input table.old sector site batch.now)
-        (lent table.old sector fates.old slots.old shown.old discounts.old prices.old)
-        (lent table.new (next_sector sector) fates.new slots.new shown.new discounts.new prices.new) result }
+    requires ready { Ready (input_in table.old call) }
+    requires pairable { Pairable (input_in table.old call) due.now sheet.old pairing.old track_prices.old discounts.old }
+    requires room { Room (length table.old) (length call.batch.now) (length fates.old) (length slots.old) (length shown.old) (length discounts.old) (length prices.old) }
+    ensures { ServedWith (input_in table.old call.entry)
+        (lent table.old call.entry.sector fates.old slots.old shown.old discounts.old prices.old)
+        (lent table.new (next_sector call.entry.sector) fates.new slots.new shown.new discounts.new prices.new) result }
 {
-    pair_up(
-        table,
-        sector,
-        site,
-        batch,
-        due,
-        sheet,
-        pairing,
-        track_prices,
-        discounts,
-    );
+    pair_up(table, call, due, sheet, pairing, track_prices, discounts);
     settle(
         table,
-        sector,
-        site,
-        batch,
+        call,
         due,
         sheet,
         pairing,
@@ -203,9 +185,7 @@ fn blank_list() -> [u32; intake::MOST_DUE]
 // A call that is refused by nothing, with its due list.
 fn serve(
     table: &mut [[u8; records::SLOT_BYTES]],
-    sector: u8,
-    site: Site,
-    batch: &[[u8; records::REPORT_BYTES]],
+    call: Call,
     due: &[usize],
     fates: &mut [u8],
     slots: &mut [u16],
@@ -213,23 +193,21 @@ fn serve(
     discounts: &mut [u32],
     prices: &mut [u32],
 ) -> Counts
-    requires ready { Ready (input table.old sector site batch.now) }
+    requires ready { Ready (input_in table.old call) }
     requires due_listed { due.now ≡ due_slots table.old }
-    requires room { Room (length table.old) (length batch.now) (length fates.old) (length slots.old) (length shown.old) (length discounts.old) (length prices.old) }
-    ensures { ServedWith (input table.old sector site batch.now)
-        (lent table.old sector fates.old slots.old shown.old discounts.old prices.old)
-        (lent table.new (next_sector sector) fates.new slots.new shown.new discounts.new prices.new) result }
+    requires room { Room (length table.old) (length call.batch.now) (length fates.old) (length slots.old) (length shown.old) (length discounts.old) (length prices.old) }
+    ensures { ServedWith (input_in table.old call.entry)
+        (lent table.old call.entry.sector fates.old slots.old shown.old discounts.old prices.old)
+        (lent table.new (next_sector call.entry.sector) fates.new slots.new shown.new discounts.new prices.new) result }
 {
     let tracks = due.len();
-    let cells = tracks * batch.len();
+    let cells = tracks * call.batch.len();
     let mut sheet = blank_sheet();
     let mut pairing = blank_list();
     let mut track_prices = blank_list();
     serve_due(
         table,
-        sector,
-        site,
-        batch,
+        call,
         due,
         &mut sheet[..cells],
         &mut pairing[..tracks],
@@ -280,9 +258,13 @@ pub fn serve_sector(
         (lent table.old sector.old fates.old slots.old shown.old discounts.old prices.old)
         (lent table.new sector.new fates.new slots.new shown.new discounts.new prices.new) result }
 {
-    let served = *sector;
+    let call = Call {
+        sector: *sector,
+        site,
+        batch,
+    };
     let mut due = intake::blank_due();
-    let tracks = intake::take_in(table, served, site, batch, &mut due)?;
+    let tracks = intake::take_in(table, call, &mut due)?;
     if !has_room(
         batch.len(),
         table.len(),
@@ -296,9 +278,7 @@ pub fn serve_sector(
     }
     let counts = serve(
         table,
-        served,
-        site,
-        batch,
+        call,
         &due[..tracks],
         fates,
         slots,
@@ -306,6 +286,6 @@ pub fn serve_sector(
         discounts,
         prices,
     );
-    *sector = numbers::next_sector(served);
+    *sector = numbers::next_sector(call.sector);
     Ok(counts)
 }

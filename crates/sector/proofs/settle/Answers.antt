@@ -22,7 +22,7 @@ tell_reports-requires c =
 
 pub count_all-requires : goal.count_all-requires
 count_all-requires c =
-    rw (length-take-le (length c.args.batch.now) c.tell_reports.new.fates (omega (arith, c.tell_reports.auto, c.requires.room.for_fates))) c.requires.ready.few_reports
+    rw (length-take-le (length c.args.call.batch.now) c.tell_reports.new.fates (omega (arith, c.tell_reports.auto, c.requires.room.for_fates))) c.requires.ready.few_reports
 
 pub returns : goal.returns
 returns c =
