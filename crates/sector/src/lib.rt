@@ -1,12 +1,13 @@
 // The sector call: one call serves one sector.
 #![tactic(auto)]
 
-ghost use Rattle.std.specs.Prelude.{◌≡◌, ◌*◌, ◌<◌, ◌≤◌, length};
+ghost use Rattle.std.specs.Prelude.{◌≡◌, ◌*◌, ◌<◌, ◌≤◌, length, take};
 ghost use Rattle.numbers.specs.Sectors.{next_sector};
 ghost use Rattle.intake.specs.Refusals.{input, input_in, most_due, most_batch, due_slots, Ready};
-ghost use Rattle.sector.specs.Steps.{Pairable, PairedUp, PairedOff, Room};
+ghost use Rattle.sector.specs.Steps.{Pairable, PairedUp, PairedOff};
 ghost use Rattle.sector.specs.Settled.{SettledAs};
-ghost use Rattle.sector.specs.Serve.{lent, rooms, tally, ServedWith, ServesSector};
+ghost use Rattle.sector.specs.Serve.{lent, tally, ServedWith, ServesSector};
+ghost use Rattle.sector.specs.Lists.{lent_in, rooms_in, RoomIn, SameLists};
 ghost use Rattle.laws.specs.Lists.{at};
 ghost use Rattle.laws.specs.Tests.{holds};
 ghost use Rattle.matching.specs.Pairing.{score_end, sheet_of, score_or, sum_of_scores};
@@ -30,6 +31,51 @@ pub struct Counts {
     pub weak: u32,
     pub full: u32,
     pub score_sum: u32,
+}
+
+// The lists that a call's answer is written to.
+#[derive(Drop)]
+struct Answer<'a> {
+    // of each report
+    fates: &'a mut [u8],
+    slots: &'a mut [u16],
+    shown: &'a mut [u8],
+    discounts: &'a mut [u32],
+    // of each slot
+    prices: &'a mut [u32],
+}
+
+impl Answer<'_> {
+    // Whether there is a fate, slot, shown mark and discount per report and a price per slot.
+    fn has_room(&self, reports: usize, table: usize) -> bool
+        ensures { result ≡ holds (rooms_in reports table self.now) }
+    {
+        let rooms = [
+            reports <= self.fates.len(),
+            reports <= self.slots.len(),
+            reports <= self.shown.len(),
+            reports <= self.discounts.len(),
+            table <= self.prices.len(),
+        ];
+        records::first_broken(&rooms).is_none()
+    }
+
+    // The counts, once the reports are told.
+    fn count_all(&self, reports: usize, missed: MissedCounts, scores: u32) -> Counts
+        requires { (reports ≤ length self.now.fates.now) × (reports ≤ most_batch) }
+        ensures { result ≡ tally (take reports self.now.fates.now) missed.coasted missed.dropped scores }
+    {
+        let fates = &self.fates[..reports];
+        Counts {
+            paired: fates::count_fate(fates, Fate::Paired),
+            coasted: missed.coasted,
+            dropped: missed.dropped,
+            started: fates::count_fate(fates, Fate::Started),
+            weak: fates::count_fate(fates, Fate::Weak),
+            full: fates::count_fate(fates, Fate::Full),
+            score_sum: scores,
+        }
+    }
 }
 
 // The score of a due track's pair, or 0 where it has none.
@@ -57,22 +103,6 @@ fn score_sum(sheet: &[u32], reports: usize, pairing: &[u32]) -> u32
     sum
 }
 
-// The counts of the answer; `fates` has one a report.
-fn count_all(fates: &[u8], missed: MissedCounts, scores: u32) -> Counts
-    requires { length fates.now ≤ most_batch }
-    ensures { result ≡ tally fates.now missed.coasted missed.dropped scores }
-{
-    Counts {
-        paired: fates::count_fate(fates, Fate::Paired),
-        coasted: missed.coasted,
-        dropped: missed.dropped,
-        started: fates::count_fate(fates, Fate::Started),
-        weak: fates::count_fate(fates, Fate::Weak),
-        full: fates::count_fate(fates, Fate::Full),
-        score_sum: scores,
-    }
-}
-
 // After pairing: the table is settled, then the reports are told, and all is counted.
 fn settle(
     table: &mut [[u8; records::SLOT_BYTES]],
@@ -81,31 +111,29 @@ fn settle(
     sheet: &[u32],
     pairing: &[u32],
     track_prices: &[u32],
-    fates: &mut [u8],
-    slots: &mut [u16],
-    shown: &mut [u8],
-    prices: &mut [u32],
+    answer: &mut Answer<'_>,
 ) -> Counts
     requires ready { Ready (input_in table.old call) }
     requires paired_up { PairedUp (input_in table.old call) due.now sheet.now pairing.now track_prices.now }
-    requires room { Room (length table.old) (length call.batch.now) (length fates.old) (length slots.old) (length shown.old) (length call.batch.now) (length prices.old) }
-    ensures { SettledAs (input_in table.old call.entry) pairing.now track_prices.now fates.old slots.old shown.old prices.old table.new fates.new slots.new shown.new prices.new result }
+    requires room { RoomIn (length table.old) (length call.batch.now) answer.old }
+    ensures settled { SettledAs (input_in table.old call.entry) pairing.now track_prices.now (lent_in table.old call.entry.sector answer.old) (lent_in table.new call.entry.sector answer.new) result }
+    ensures same_lists { SameLists answer.old answer.new }
 {
     let reports = call.batch.len();
     let scores = score_sum(sheet, reports, pairing);
     let missed = walk::count_missed(table, call, due, pairing);
-    walk::settle_table(table, call, due, pairing, track_prices, prices);
+    walk::settle_table(table, call, due, pairing, track_prices, answer.prices);
     fates::tell_reports(
         table,
         call.sector,
         call.batch,
         due,
         pairing,
-        fates,
-        slots,
-        shown,
+        answer.fates,
+        answer.slots,
+        answer.shown,
     );
-    count_all(&fates[..reports], missed, scores)
+    answer.count_all(reports, missed, scores)
 }
 
 // Score and pair: the sheet's cells, a report number and a price a due track, a discount a report.
@@ -141,32 +169,25 @@ fn serve_due(
     sheet: &mut [u32],
     pairing: &mut [u32],
     track_prices: &mut [u32],
-    fates: &mut [u8],
-    slots: &mut [u16],
-    shown: &mut [u8],
-    discounts: &mut [u32],
-    prices: &mut [u32],
+    answer: &mut Answer<'_>,
 ) -> Counts
     requires ready { Ready (input_in table.old call) }
-    requires pairable { Pairable (input_in table.old call) due.now sheet.old pairing.old track_prices.old discounts.old }
-    requires room { Room (length table.old) (length call.batch.now) (length fates.old) (length slots.old) (length shown.old) (length discounts.old) (length prices.old) }
-    ensures { ServedWith (input_in table.old call.entry)
-        (lent table.old call.entry.sector fates.old slots.old shown.old discounts.old prices.old)
-        (lent table.new (next_sector call.entry.sector) fates.new slots.new shown.new discounts.new prices.new) result }
+    requires pairable { Pairable (input_in table.old call) due.now sheet.old pairing.old track_prices.old answer.old.discounts.now }
+    requires room { RoomIn (length table.old) (length call.batch.now) answer.old }
+    ensures served { ServedWith (input_in table.old call.entry)
+        (lent_in table.old call.entry.sector answer.old) (lent_in table.new (next_sector call.entry.sector) answer.new) result }
+    ensures same_lists { SameLists answer.old answer.new }
 {
-    pair_up(table, call, due, sheet, pairing, track_prices, discounts);
-    settle(
+    pair_up(
         table,
         call,
         due,
         sheet,
         pairing,
         track_prices,
-        fates,
-        slots,
-        shown,
-        prices,
-    )
+        answer.discounts,
+    );
+    settle(table, call, due, sheet, pairing, track_prices, answer)
 }
 
 // Lists of its own for a call: the sheet, and an entry a due track.
@@ -187,18 +208,14 @@ fn serve(
     table: &mut [[u8; records::SLOT_BYTES]],
     call: Call,
     due: &[usize],
-    fates: &mut [u8],
-    slots: &mut [u16],
-    shown: &mut [u8],
-    discounts: &mut [u32],
-    prices: &mut [u32],
+    answer: &mut Answer<'_>,
 ) -> Counts
     requires ready { Ready (input_in table.old call) }
     requires due_listed { due.now ≡ due_slots table.old }
-    requires room { Room (length table.old) (length call.batch.now) (length fates.old) (length slots.old) (length shown.old) (length discounts.old) (length prices.old) }
-    ensures { ServedWith (input_in table.old call.entry)
-        (lent table.old call.entry.sector fates.old slots.old shown.old discounts.old prices.old)
-        (lent table.new (next_sector call.entry.sector) fates.new slots.new shown.new discounts.new prices.new) result }
+    requires room { RoomIn (length table.old) (length call.batch.now) answer.old }
+    ensures served { ServedWith (input_in table.old call.entry)
+        (lent_in table.old call.entry.sector answer.old) (lent_in table.new (next_sector call.entry.sector) answer.new) result }
+    ensures same_lists { SameLists answer.old answer.new }
 {
     let tracks = due.len();
     let cells = tracks * call.batch.len();
@@ -212,34 +229,8 @@ fn serve(
         &mut sheet[..cells],
         &mut pairing[..tracks],
         &mut track_prices[..tracks],
-        fates,
-        slots,
-        shown,
-        discounts,
-        prices,
+        answer,
     )
-}
-
-// Whether the answer's lists have room for a fate, slot, shown mark and discount per report and a price per slot.
-fn has_room(
-    reports: usize,
-    table: usize,
-    fates: usize,
-    slots: usize,
-    shown: usize,
-    discounts: usize,
-    prices: usize,
-) -> bool
-    ensures { result ≡ holds (rooms reports table fates slots shown discounts prices) }
-{
-    let rooms = [
-        reports <= fates,
-        reports <= slots,
-        reports <= shown,
-        reports <= discounts,
-        table <= prices,
-    ];
-    records::first_broken(&rooms).is_none()
 }
 
 // The public call: refused by 1 to 9, and then nothing that was lent changes; else the sector is served.
@@ -263,29 +254,19 @@ pub fn serve_sector(
         site,
         batch,
     };
-    let mut due = intake::blank_due();
-    let tracks = intake::take_in(table, call, &mut due)?;
-    if !has_room(
-        batch.len(),
-        table.len(),
-        fates.len(),
-        slots.len(),
-        shown.len(),
-        discounts.len(),
-        prices.len(),
-    ) {
-        return Err(Refusal::NoRoom);
-    }
-    let counts = serve(
-        table,
-        call,
-        &due[..tracks],
+    let mut answer = Answer {
         fates,
         slots,
         shown,
         discounts,
         prices,
-    );
+    };
+    let mut due = intake::blank_due();
+    let tracks = intake::take_in(table, call, &mut due)?;
+    if !answer.has_room(batch.len(), table.len()) {
+        return Err(Refusal::NoRoom);
+    }
+    let counts = serve(table, call, &due[..tracks], &mut answer);
     *sector = numbers::next_sector(call.sector);
     Ok(counts)
 }
