@@ -2,12 +2,12 @@
 #![tactic(auto)]
 
 ghost use Rattle.std.specs.Prelude.{◌≡◌, ◌++◌, map, ◌+◌, ◌*◌, ◌<◌, length, drop};
-ghost use Rattle.intake.specs.Refusals.{input, Ready};
+ghost use Rattle.intake.specs.Refusals.{input, input_in, Ready};
 ghost use Rattle.scoresheet.specs.Cells.{cell_of, pair_cell, cells_of};
 ghost use Rattle.scoresheet.specs.Call.{sheeted_of, sheet_after};
 ghost use Rattle.scoresheet.specs.Ready.{RowReady, RowsReady};
 
-use intake::Refusal;
+use intake::{Call, Refusal};
 use records::{Site, Track};
 
 // How many due tracks a sheet has, and how many reports.
@@ -37,25 +37,23 @@ fn fill_row(t: Track, site: Site, batch: &[[u8; records::REPORT_BYTES]], row: &m
 }
 
 // The rows of the due tracks, one behind the other.
-pub fn fill_rows(
-    table: &[[u8; records::SLOT_BYTES]],
-    sector: u8,
-    site: Site,
-    batch: &[[u8; records::REPORT_BYTES]],
-    due: &[usize],
-    sheet: &mut [u32],
-)
-    requires ready { Ready (input table.now sector site batch.now) }
-    requires rows_ready { RowsReady (input table.now sector site batch.now) due.now sheet.old }
-    ensures { sheet.new ≡ cells_of (input table.now sector site batch.now) ++ drop (length due.now * length batch.now) sheet.old }
+pub fn fill_rows(table: &[[u8; records::SLOT_BYTES]], call: Call, due: &[usize], sheet: &mut [u32])
+    requires ready { Ready (input_in table.now call) }
+    requires rows_ready { RowsReady (input_in table.now call) due.now sheet.old }
+    ensures { sheet.new ≡ cells_of (input_in table.now call.entry) ++ drop (length due.now * length call.entry.batch.now) sheet.old }
 {
-    let reports = batch.len();
+    let reports = call.batch.len();
     // No chunks_exact_mut: a batch may be empty, and a chunk may not.
     for (rank, k) in due.iter().enumerate() {
         let slot = table[*k];
         let from = rank * reports;
         let to = from + reports;
-        fill_row(records::unpack(slot), site, batch, &mut sheet[from..to]);
+        fill_row(
+            records::unpack(slot),
+            call.site,
+            call.batch,
+            &mut sheet[from..to],
+        );
     }
 }
 
@@ -70,12 +68,17 @@ pub fn score_sheet(
     ensures answer { result ≡ sheeted_of (input table.now sector site batch.now) sheet.old }
     ensures sheet_after { sheet.new ≡ sheet_after (input table.now sector site batch.now) sheet.old }
 {
+    let call = Call {
+        sector,
+        site,
+        batch,
+    };
     let mut due = intake::blank_due();
-    let tracks = intake::take_in(table, sector, site, batch, &mut due)?;
+    let tracks = intake::take_in(table, call, &mut due)?;
     let reports = batch.len();
     if sheet.len() < tracks * reports {
         return Err(Refusal::NoRoom);
     }
-    fill_rows(table, sector, site, batch, &due[..tracks], sheet);
+    fill_rows(table, call, &due[..tracks], sheet);
     Ok(Size { tracks, reports })
 }

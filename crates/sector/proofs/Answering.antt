@@ -2,7 +2,7 @@
 use Prim.Native.Nat.{ℕ, ◌≤◌}
 use mathlib.Core.Path.{◌≡◌, refl, sym, ap, ◌∙◌}
 use mathlib.Core.Bool.{Bool, true, false, cond}
-use mathlib.Core.List.{[]}
+use mathlib.Core.List.{List, []}
 use borrow.Author.Tests.{leb-true}
 use Rattle.laws.proofs.Tests.{holds_each}
 use Rattle.laws.specs.Tests.{holds}
@@ -14,7 +14,7 @@ use Rattle.intake.proofs.Numbers.{number_positive, answer_refused, answer_else, 
 use Rattle.intake.proofs.Readiness.{refused_by_fault, refused_by_room, refused_upto}
 use Rattle.sector.specs.declared.Counts.{Counts}
 use Rattle.sector.specs.Steps.{Room}
-use Rattle.sector.specs.Serve.{Lent, rooms, room_for, sector_refusal, tally, ServedWith, served_by, ServesSector}
+use Rattle.sector.specs.Serve.{Lent, lent, rooms, room_for, sector_refusal, tally, ServedWith, served_by, ServesSector}
 
 -- no list is too short
 pub room_facts : {reports table fates slots shown discounts prices : ℕ} → holds (rooms reports table fates slots shown discounts prices) ≡ true → Room table reports fates slots shown discounts prices
@@ -83,6 +83,10 @@ pub by_room : (i : Input) (l : Lent) → fault_of i ≡ 0 → room_for i l ≡ f
 unfolding sector_refusal
 by_room i l e h =
     refused_with i l NoRoom (refused_by_room i (room_for i l) e ∙ ap (λ (b : Bool). cond b 0 no_room) h)
+
+-- what stands in the lists of an answer stands in those that were lent
+pub written : {i : Input} {l : Lent} {table : List (List ℕ)} {sector : ℕ} {fates slots shown discounts prices fates' slots' shown' discounts' prices' : List ℕ} {counts : Counts} → ServedWith i l (lent table sector fates' slots' shown' discounts' prices') counts → fates ≡ fates' → slots ≡ slots' → shown ≡ shown' → discounts ≡ discounts' → prices ≡ prices' → ServedWith i l (lent table sector fates slots shown discounts prices) counts
+written w f o s d p = rw (f, o, s, d, p) w
 
 -- served
 pub by_serving : (i : Input) (l l' : Lent) (counts : Counts) → fault_of i ≡ 0 → room_for i l ≡ true → ServedWith i l l' counts → ServesSector i l l' (Ok counts)

@@ -51,7 +51,7 @@ module _ (i : Input) (due sheet p u v v' : List ℕ) (w : PairedOff i due sheet 
         ∙ w.accepted;
   }
 
-  pub served_with : {fates slots shown prices : List ℕ} {table' : List (List ℕ)} {fates' slots' shown' prices' : List ℕ} {counts : Counts} → SettledAs i p u fates slots shown prices table' fates' slots' shown' prices' counts → ServedWith i (lent i.table i.sector fates slots shown v prices) (lent table' (next_sector i.sector) fates' slots' shown' v' prices') counts
+  pub served_with : {fates slots shown prices : List ℕ} {table' : List (List ℕ)} {fates' slots' shown' w' prices' : List ℕ} {counts : Counts} → SettledAs i p u (lent i.table i.sector fates slots shown v' prices) (lent table' i.sector fates' slots' shown' w' prices') counts → ServedWith i (lent i.table i.sector fates slots shown v prices) (lent table' (next_sector i.sector) fates' slots' shown' w' prices') counts
   unfolding after_of mine
   served_with s =
       let d : take (reports_of i) v' ++ drop (reports_of i) v ≡ v' = rw (← w.beyond) (take-append-drop (reports_of i) v') in
@@ -59,5 +59,5 @@ module _ (i : Input) (due sheet p u v v' : List ℕ) (w : PairedOff i due sheet 
         chosen = choose;
         choice = choice;
         counted = s.count;
-        left = rw (s.table, s.fate, s.slot, s.show, s.price, d);
+        left = rw (s.table, s.fate, s.slot, s.show, s.discount, s.price, d);
       }

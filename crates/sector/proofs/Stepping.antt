@@ -1,6 +1,6 @@
 -- From what a served call has found to what each of its steps asks, and what the steps leave.
 use Prim.Native.Nat.{ℕ, ◌≤◌}
-use mathlib.Core.Path.{◌≡◌, sym, ap, ◌∙◌}
+use mathlib.Core.Path.{◌≡◌, refl, sym, ap, ◌∙◌}
 use mathlib.Core.List.{List, ◌++◌}
 use native.Mathlib.Nat.{le_of_eq}
 use lib.ListN.{length, take, drop}
@@ -17,7 +17,7 @@ use Rattle.fates.proofs.Answers.{fates_taken}
 use Rattle.sector.specs.declared.Counts.{Counts}
 use Rattle.sector.specs.Sum.{Summable}
 use Rattle.sector.specs.Steps.{PairedUp}
-use Rattle.sector.specs.Serve.{reports_in, fates_in, tally, counts_of}
+use Rattle.sector.specs.Serve.{lent, reports_in, fates_in, tally, counts_of}
 use Rattle.sector.specs.Settled.{SettledAs}
 
 module _ (i : Input) (due sheet P u : List ℕ) (r : Ready i) (p : PairedUp i due sheet P u) where
@@ -59,7 +59,7 @@ module _ (i : Input) (due sheet P u : List ℕ) (r : Ready i) (p : PairedUp i du
   }
 
   -- what the steps left, one after the other
-  pub settled : {table table' : List (List ℕ)} {fates slots shown prices fates' slots' shown' prices' : List ℕ} {coasted dropped scores : ℕ} {counts : Counts} → scores ≡ sum_of_scores (sheet_of (length P) (length i.batch) sheet) (at P) → coasted ≡ coasted_count i (length due) P → dropped ≡ dropped_count i (length due) P → table ≡ settled_table i P → prices' ≡ slot_prices i u ++ drop (length i.table) prices → table' ≡ started_table (handed due i.sector i.batch) P table → fates' ≡ fates_of (handed due i.sector i.batch) P table ++ drop (length i.batch) fates → slots' ≡ slots_of (handed due i.sector i.batch) P table ++ drop (length i.batch) slots → shown' ≡ shown_of (handed due i.sector i.batch) P table ++ drop (length i.batch) shown → counts ≡ tally (take (length i.batch) fates') coasted dropped scores → SettledAs i P u fates slots shown prices table' fates' slots' shown' prices' counts
+  pub settled : {sector : ℕ} {before table table' : List (List ℕ)} {fates slots shown discounts prices fates' slots' shown' prices' : List ℕ} {coasted dropped scores : ℕ} {counts : Counts} → scores ≡ sum_of_scores (sheet_of (length P) (length i.batch) sheet) (at P) → coasted ≡ coasted_count i (length due) P → dropped ≡ dropped_count i (length due) P → table ≡ settled_table i P → prices' ≡ slot_prices i u ++ drop (length i.table) prices → table' ≡ started_table (handed due i.sector i.batch) P table → fates' ≡ fates_of (handed due i.sector i.batch) P table ++ drop (length i.batch) fates → slots' ≡ slots_of (handed due i.sector i.batch) P table ++ drop (length i.batch) slots → shown' ≡ shown_of (handed due i.sector i.batch) P table ++ drop (length i.batch) shown → counts ≡ tally (take (length i.batch) fates') coasted dropped scores → SettledAs i P u (lent before sector fates slots shown discounts prices) (lent table' sector fates' slots' shown' discounts prices') counts
   unfolding reports_of fates_in counts_of tracks_of
   settled {table} {fates = fates} s k d t q t' f o w n =
       let taken : take (length i.batch) (fates_of (reports_in i) P (settled_table i P) ++ drop (length i.batch) fates) ≡ fates_of (reports_in i) P (settled_table i P) = fates_taken (reports_in i) P (settled_table i P) (drop (length i.batch) fates) in
@@ -68,6 +68,7 @@ module _ (i : Input) (due sheet P u : List ℕ) (r : Ready i) (p : PairedUp i du
         fate = rw (f, t, p.due_is);
         slot = rw (o, t, p.due_is);
         show = rw (w, t, p.due_is);
+        discount = refl;
         price = q;
         count = rw (n, f, t, p.due_is, taken, k, d, s, sheet_same, p.due_is);
       }

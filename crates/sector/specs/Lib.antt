@@ -3,3 +3,4 @@ pub mod Sum
 pub mod Steps
 pub mod Serve
 pub mod Settled
+pub mod Lists

@@ -1,19 +1,20 @@
 // The sector call: one call serves one sector.
 #![tactic(auto)]
 
-ghost use Rattle.std.specs.Prelude.{◌≡◌, ◌*◌, ◌<◌, ◌≤◌, length};
+ghost use Rattle.std.specs.Prelude.{◌≡◌, ◌*◌, ◌<◌, ◌≤◌, length, take};
 ghost use Rattle.numbers.specs.Sectors.{next_sector};
-ghost use Rattle.intake.specs.Refusals.{input, most_due, most_batch, due_slots, Ready};
-ghost use Rattle.sector.specs.Steps.{Pairable, PairedUp, PairedOff, Room};
+ghost use Rattle.intake.specs.Refusals.{input, input_in, most_due, most_batch, due_slots, Ready};
+ghost use Rattle.sector.specs.Steps.{Pairable, PairedUp, PairedOff};
 ghost use Rattle.sector.specs.Settled.{SettledAs};
-ghost use Rattle.sector.specs.Serve.{lent, rooms, tally, ServedWith, ServesSector};
+ghost use Rattle.sector.specs.Serve.{lent, tally, ServedWith, ServesSector};
+ghost use Rattle.sector.specs.Lists.{lent_in, rooms_in, RoomIn, SameLists};
 ghost use Rattle.laws.specs.Lists.{at};
 ghost use Rattle.laws.specs.Tests.{holds};
 ghost use Rattle.matching.specs.Pairing.{score_end, sheet_of, score_or, sum_of_scores};
 ghost use Rattle.sector.specs.Sum.{Summable};
 
 use fates::Fate;
-use intake::Refusal;
+use intake::{Call, Refusal};
 use records::Site;
 use walk::MissedCounts;
 
@@ -29,6 +30,51 @@ pub struct Counts {
     pub weak: u32,
     pub full: u32,
     pub score_sum: u32,
+}
+
+// The lists that a call's answer is written to.
+#[derive(Drop)]
+struct Answer<'a> {
+    // of each report
+    fates: &'a mut [u8],
+    slots: &'a mut [u16],
+    shown: &'a mut [u8],
+    discounts: &'a mut [u32],
+    // of each slot
+    prices: &'a mut [u32],
+}
+
+impl Answer<'_> {
+    // Whether there is a fate, slot, shown mark and discount per report and a price per slot.
+    fn has_room(&self, reports: usize, table: usize) -> bool
+        ensures { result ≡ holds (rooms_in reports table self.now) }
+    {
+        let rooms = [
+            reports <= self.fates.len(),
+            reports <= self.slots.len(),
+            reports <= self.shown.len(),
+            reports <= self.discounts.len(),
+            table <= self.prices.len(),
+        ];
+        records::first_broken(&rooms).is_none()
+    }
+
+    // The counts, once the reports are told.
+    fn count_all(&self, reports: usize, missed: MissedCounts, scores: u32) -> Counts
+        requires { (reports ≤ length self.now.fates.now) × (reports ≤ most_batch) }
+        ensures { result ≡ tally (take reports self.now.fates.now) missed.coasted missed.dropped scores }
+    {
+        let fates = &self.fates[..reports];
+        Counts {
+            paired: fates::count_fate(fates, Fate::Paired),
+            coasted: missed.coasted,
+            dropped: missed.dropped,
+            started: fates::count_fate(fates, Fate::Started),
+            weak: fates::count_fate(fates, Fate::Weak),
+            full: fates::count_fate(fates, Fate::Full),
+            score_sum: scores,
+        }
+    }
 }
 
 // The score of a due track's pair, or 0 where it has none.
@@ -56,80 +102,58 @@ fn score_sum(sheet: &[u32], reports: usize, pairing: &[u32]) -> u32
     sum
 }
 
-// The counts of the answer; `fates` has one a report.
-fn count_all(fates: &[u8], missed: MissedCounts, scores: u32) -> Counts
-    requires { length fates.now ≤ most_batch }
-    ensures { result ≡ tally fates.now missed.coasted missed.dropped scores }
-{
-    Counts {
-        paired: fates::count_fate(fates, Fate::Paired),
-        coasted: missed.coasted,
-        dropped: missed.dropped,
-        started: fates::count_fate(fates, Fate::Started),
-        weak: fates::count_fate(fates, Fate::Weak),
-        full: fates::count_fate(fates, Fate::Full),
-        score_sum: scores,
-    }
-}
-
 // After pairing: the table is settled, then the reports are told, and all is counted.
 fn settle(
     table: &mut [[u8; records::SLOT_BYTES]],
-    sector: u8,
-    site: Site,
-    batch: &[[u8; records::REPORT_BYTES]],
+    call: Call,
     due: &[usize],
     sheet: &[u32],
     pairing: &[u32],
     track_prices: &[u32],
-    fates: &mut [u8],
-    slots: &mut [u16],
-    shown: &mut [u8],
-    prices: &mut [u32],
+    answer: &mut Answer<'_>,
 ) -> Counts
-    requires ready { Ready (input table.old sector site batch.now) }
-    requires paired_up { PairedUp (input table.old sector site batch.now) due.now sheet.now pairing.now track_prices.now }
-    requires room { Room (length table.old) (length batch.now) (length fates.old) (length slots.old) (length shown.old) (length batch.now) (length prices.old) }
-    ensures { SettledAs (input table.old sector site batch.now) pairing.now track_prices.now fates.old slots.old shown.old prices.old table.new fates.new slots.new shown.new prices.new result }
+    requires ready { Ready (input_in table.old call) }
+    requires paired_up { PairedUp (input_in table.old call) due.now sheet.now pairing.now track_prices.now }
+    requires room { RoomIn (length table.old) (length call.batch.now) answer.old }
+    ensures settled { SettledAs (input_in table.old call.entry) pairing.now track_prices.now (lent_in table.old call.entry.sector answer.old) (lent_in table.new call.entry.sector answer.new) result }
+    ensures same_lists { SameLists answer.old answer.new }
 {
-    let reports = batch.len();
+    let reports = call.batch.len();
     let scores = score_sum(sheet, reports, pairing);
-    let missed = walk::count_missed(table, sector, site, batch, due, pairing);
-    walk::settle_table(
+    let missed = walk::count_missed(table, call, due, pairing);
+    walk::settle_table(table, call, due, pairing, track_prices, answer.prices);
+    fates::tell_reports(
         table,
-        sector,
-        site,
-        batch,
+        call.sector,
+        call.batch,
         due,
         pairing,
-        track_prices,
-        prices,
+        answer.fates,
+        answer.slots,
+        answer.shown,
     );
-    fates::tell_reports(table, sector, batch, due, pairing, fates, slots, shown);
-    count_all(&fates[..reports], missed, scores)
+    answer.count_all(reports, missed, scores)
 }
 
 // Score and pair: the sheet's cells, a report number and a price a due track, a discount a report.
 fn pair_up(
     table: &[[u8; records::SLOT_BYTES]],
-    sector: u8,
-    site: Site,
-    batch: &[[u8; records::REPORT_BYTES]],
+    call: Call,
     due: &[usize],
     sheet: &mut [u32],
     pairing: &mut [u32],
     track_prices: &mut [u32],
     discounts: &mut [u32],
 )
-    requires ready { Ready (input table.now sector site batch.now) }
-    requires pairable { Pairable (input table.now sector site batch.now) due.now sheet.old pairing.old track_prices.old discounts.old }
-    ensures { PairedOff (input table.now sector site batch.now) due.now sheet.new pairing.new track_prices.new discounts.old discounts.new }
+    requires ready { Ready (input_in table.now call) }
+    requires pairable { Pairable (input_in table.now call) due.now sheet.old pairing.old track_prices.old discounts.old }
+    ensures { PairedOff (input_in table.now call.entry) due.now sheet.new pairing.new track_prices.new discounts.old discounts.new }
 {
-    scoresheet::fill_rows(table, sector, site, batch, due, sheet);
+    scoresheet::fill_rows(table, call, due, sheet);
     // The sheet is not refused: its sizes and cells are the sector's.
     let _ = engine::pair_sheet(
         due.len(),
-        batch.len(),
+        call.batch.len(),
         sheet,
         pairing,
         track_prices,
@@ -140,51 +164,30 @@ fn pair_up(
 // A call that is refused by nothing, with its due list and its working lists: score, pair, settle.
 fn serve_due(
     table: &mut [[u8; records::SLOT_BYTES]],
-    sector: u8,
-    site: Site,
-    batch: &[[u8; records::REPORT_BYTES]],
+    call: Call,
     due: &[usize],
     sheet: &mut [u32],
     pairing: &mut [u32],
     track_prices: &mut [u32],
-    fates: &mut [u8],
-    slots: &mut [u16],
-    shown: &mut [u8],
-    discounts: &mut [u32],
-    prices: &mut [u32],
+    answer: &mut Answer<'_>,
 ) -> Counts
-    requires ready { Ready (input table.old sector site batch.now) }
-    requires pairable { Pairable (input table.old sector site batch.now) due.now sheet.old pairing.old track_prices.old discounts.old }
-    requires room { Room (length table.old) (length batch.now) (length fates.old) (length slots.old) (length shown.old) (length discounts.old) (length prices.old) }
-    ensures { ServedWith (input table.old sector site batch.now)
-        (lent table.old sector fates.old slots.old shown.old discounts.old prices.old)
-        (lent table.new (next_sector sector) fates.new slots.new shown.new discounts.new prices.new) result }
+    requires ready { Ready (input_in table.old call) }
+    requires pairable { Pairable (input_in table.old call) due.now sheet.old pairing.old track_prices.old answer.old.discounts.now }
+    requires room { RoomIn (length table.old) (length call.batch.now) answer.old }
+    ensures served { ServedWith (input_in table.old call.entry)
+        (lent_in table.old call.entry.sector answer.old) (lent_in table.new (next_sector call.entry.sector) answer.new) result }
+    ensures same_lists { SameLists answer.old answer.new }
 {
     pair_up(
         table,
-        sector,
-        site,
-        batch,
+        call,
         due,
         sheet,
         pairing,
         track_prices,
-        discounts,
+        answer.discounts,
     );
-    settle(
-        table,
-        sector,
-        site,
-        batch,
-        due,
-        sheet,
-        pairing,
-        track_prices,
-        fates,
-        slots,
-        shown,
-        prices,
-    )
+    settle(table, call, due, sheet, pairing, track_prices, answer)
 }
 
 // Lists of its own for a call: the sheet, and an entry a due track.
@@ -203,65 +206,31 @@ fn blank_list() -> [u32; intake::MOST_DUE]
 // A call that is refused by nothing, with its due list.
 fn serve(
     table: &mut [[u8; records::SLOT_BYTES]],
-    sector: u8,
-    site: Site,
-    batch: &[[u8; records::REPORT_BYTES]],
+    call: Call,
     due: &[usize],
-    fates: &mut [u8],
-    slots: &mut [u16],
-    shown: &mut [u8],
-    discounts: &mut [u32],
-    prices: &mut [u32],
+    answer: &mut Answer<'_>,
 ) -> Counts
-    requires ready { Ready (input table.old sector site batch.now) }
+    requires ready { Ready (input_in table.old call) }
     requires due_listed { due.now ≡ due_slots table.old }
-    requires room { Room (length table.old) (length batch.now) (length fates.old) (length slots.old) (length shown.old) (length discounts.old) (length prices.old) }
-    ensures { ServedWith (input table.old sector site batch.now)
-        (lent table.old sector fates.old slots.old shown.old discounts.old prices.old)
-        (lent table.new (next_sector sector) fates.new slots.new shown.new discounts.new prices.new) result }
+    requires room { RoomIn (length table.old) (length call.batch.now) answer.old }
+    ensures served { ServedWith (input_in table.old call.entry)
+        (lent_in table.old call.entry.sector answer.old) (lent_in table.new (next_sector call.entry.sector) answer.new) result }
+    ensures same_lists { SameLists answer.old answer.new }
 {
     let tracks = due.len();
-    let cells = tracks * batch.len();
+    let cells = tracks * call.batch.len();
     let mut sheet = blank_sheet();
     let mut pairing = blank_list();
     let mut track_prices = blank_list();
     serve_due(
         table,
-        sector,
-        site,
-        batch,
+        call,
         due,
         &mut sheet[..cells],
         &mut pairing[..tracks],
         &mut track_prices[..tracks],
-        fates,
-        slots,
-        shown,
-        discounts,
-        prices,
+        answer,
     )
-}
-
-// Whether the answer's lists have room for a fate, slot, shown mark and discount per report and a price per slot.
-fn has_room(
-    reports: usize,
-    table: usize,
-    fates: usize,
-    slots: usize,
-    shown: usize,
-    discounts: usize,
-    prices: usize,
-) -> bool
-    ensures { result ≡ holds (rooms reports table fates slots shown discounts prices) }
-{
-    let rooms = [
-        reports <= fates,
-        reports <= slots,
-        reports <= shown,
-        reports <= discounts,
-        table <= prices,
-    ];
-    records::first_broken(&rooms).is_none()
 }
 
 // The public call: refused by 1 to 9, and then nothing that was lent changes; else the sector is served.
@@ -280,32 +249,24 @@ pub fn serve_sector(
         (lent table.old sector.old fates.old slots.old shown.old discounts.old prices.old)
         (lent table.new sector.new fates.new slots.new shown.new discounts.new prices.new) result }
 {
-    let served = *sector;
-    let mut due = intake::blank_due();
-    let tracks = intake::take_in(table, served, site, batch, &mut due)?;
-    if !has_room(
-        batch.len(),
-        table.len(),
-        fates.len(),
-        slots.len(),
-        shown.len(),
-        discounts.len(),
-        prices.len(),
-    ) {
-        return Err(Refusal::NoRoom);
-    }
-    let counts = serve(
-        table,
-        served,
+    let call = Call {
+        sector: *sector,
         site,
         batch,
-        &due[..tracks],
+    };
+    let mut answer = Answer {
         fates,
         slots,
         shown,
         discounts,
         prices,
-    );
-    *sector = numbers::next_sector(served);
+    };
+    let mut due = intake::blank_due();
+    let tracks = intake::take_in(table, call, &mut due)?;
+    if !answer.has_room(batch.len(), table.len()) {
+        return Err(Refusal::NoRoom);
+    }
+    let counts = serve(table, call, &due[..tracks], &mut answer);
+    *sector = numbers::next_sector(call.sector);
     Ok(counts)
 }

@@ -8,13 +8,13 @@ ghost use Rattle.laws.specs.Lists.{at};
 ghost use Rattle.records.specs.Bytes.{track_of, report_of, slot_due};
 ghost use Rattle.settling.specs.Settle.{Settleable, without_pair};
 ghost use Rattle.matching.specs.Pairing.{none};
-ghost use Rattle.intake.specs.Refusals.{input, due_slots, Ready};
+ghost use Rattle.intake.specs.Refusals.{input_in, due_slots, Ready};
 ghost use Rattle.laws.specs.Places.{Placed};
 ghost use Rattle.walk.specs.Table.{missed_slot, paired_slot, rested_slot, settled_slot, no_price, settled_table, slot_prices};
 ghost use Rattle.walk.specs.Table.{coasted_one, dropped_one, coasted_count, dropped_count};
 ghost use Rattle.walk.specs.Ready.{TableReady, SlotReady, DueReady, DuePriced};
 
-use records::Site;
+use intake::Call;
 
 // How many of the missed tracks coast, and how many are dropped.
 #[derive(Clone, Copy, Debug, PartialEq, Eq)]
@@ -130,23 +130,21 @@ fn price_slots(due: &[usize], track_prices: &[u32], prices: &mut [u32])
 // Each slot's price, and what becomes of each slot.
 pub fn settle_table(
     table: &mut [[u8; records::SLOT_BYTES]],
-    sector: u8,
-    site: Site,
-    batch: &[[u8; records::REPORT_BYTES]],
+    call: Call,
     due: &[usize],
     pairing: &[u32],
     track_prices: &[u32],
     prices: &mut [u32],
 )
-    requires ready { Ready (input table.old sector site batch.now) }
-    requires table_ready { TableReady (input table.old sector site batch.now) due.now pairing.now track_prices.now prices.old }
-    ensures table_after { table.new ≡ settled_table (input table.old sector site batch.now) pairing.now }
-    ensures prices_after { prices.new ≡ slot_prices (input table.old sector site batch.now) track_prices.now ++ drop (length table.old) prices.old }
+    requires ready { Ready (input_in table.old call) }
+    requires table_ready { TableReady (input_in table.old call) due.now pairing.now track_prices.now prices.old }
+    ensures table_after { table.new ≡ settled_table (input_in table.old call.entry) pairing.now }
+    ensures prices_after { prices.new ≡ slot_prices (input_in table.old call.entry) track_prices.now ++ drop (length table.old) prices.old }
 {
     let slots = table.len();
     price_slots(due, track_prices, &mut prices[..slots]);
     age_table(table);
-    settle_due(table, sector, batch, due, pairing);
+    settle_due(table, call.sector, call.batch, due, pairing);
 }
 
 // What one due track adds to the counts; number is its report's, or NONE.
@@ -178,21 +176,19 @@ fn missed_one(slot: [u8; records::SLOT_BYTES], number: u32, sector: u8) -> Misse
 // The counts of the table as it stands before it is settled.
 pub fn count_missed(
     table: &[[u8; records::SLOT_BYTES]],
-    sector: u8,
-    site: Site,
-    batch: &[[u8; records::REPORT_BYTES]],
+    call: Call,
     due: &[usize],
     pairing: &[u32],
 ) -> MissedCounts
-    requires ready { Ready (input table.now sector site batch.now) }
+    requires ready { Ready (input_in table.now call) }
     requires due_listed { (due.now ≡ due_slots table.now) × (length due.now ≤ length pairing.now) }
-    ensures coasts { result.coasted ≡ coasted_count (input table.now sector site batch.now) (length due.now) pairing.now }
-    ensures drops { result.dropped ≡ dropped_count (input table.now sector site batch.now) (length due.now) pairing.now }
+    ensures coasts { result.coasted ≡ coasted_count (input_in table.now call.entry) (length due.now) pairing.now }
+    ensures drops { result.dropped ≡ dropped_count (input_in table.now call.entry) (length due.now) pairing.now }
 {
     let mut coasted: u32 = 0;
     let mut dropped: u32 = 0;
     for (rank, k) in due.iter().enumerate() {
-        let one = missed_one(table[*k], pairing[rank], sector);
+        let one = missed_one(table[*k], pairing[rank], call.sector);
         coasted += one.coasted;
         dropped += one.dropped;
     }

@@ -32,7 +32,7 @@ offset_bounds-sheet-from c =
 pub fill_row-requires : goal.fill_row-requires
 fill_row-requires c =
     let n = next_row c.requires.ready c.requires.rows_ready c.loop-rank.invariant c.loop-rank-test.true in
-    let t : WellFormed c.unpack.result c.args.sector = rw c.unpack.ensures n.track in
+    let t : WellFormed c.unpack.result c.args.call.sector = rw c.unpack.ensures n.track in
     row_ready c.requires.ready t (row_part _ _ _ n.room)
 
 pub loop-rank-preserved : goal.loop-rank-preserved

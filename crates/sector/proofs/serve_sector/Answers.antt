@@ -1,10 +1,11 @@
+use borrow.Author.Rules.{rules}
 use mathlib.Core.Path.{sym, ◌∙◌}
 use lib.Seq.{length-take-le}
 use Rattle.intake.proofs.Readiness.{ready}
 use Rattle.scoresheet.specs.Cells.{reports_of}
 use Rattle.sector.specs.Serve.{room_for}
 use Rattle.std.proofs.lemmas.Result.{err_from_is_err_and}
-use Rattle.sector.proofs.Answering.{room_facts, by_fault, by_room, by_serving}
+use Rattle.sector.proofs.Answering.{written, room_facts, by_fault, by_room, by_serving}
 use Rattle.laws.proofs.Parts.{listed_room}
 use Rattle.sector.proofs.serve_sector.Goals as goal
 
@@ -31,4 +32,7 @@ next_sector-requires c = (ready _ (sym c.in_ok-tracks.ensures.fault)).sector_in
 
 pub returns : goal.returns
 unfolding room_for reports_of
-returns c = by_serving _ _ _ _ (sym c.in_ok-tracks.ensures.fault) (sym c.has_room.ensures ∙ c.if-not-has_room.false) (rw c.next_sector.ensures.0 c.serve-counts.ensures)
+returns c =
+    let same = c.serve-counts.ensures.same_lists in
+    by_serving _ _ _ _ (sym c.in_ok-tracks.ensures.fault) (sym c.has_room.ensures ∙ c.if-not-has_room.false)
+    (rw c.next_sector.ensures.0 (written c.serve-counts.ensures.served (search rules) (search rules) (search rules) (search rules) (search rules)))

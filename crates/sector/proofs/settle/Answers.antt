@@ -1,6 +1,3 @@
-use lib.ListN.{length}
-use lib.Seq.{length-take-le}
-use native.Mathlib.Omega.{arith}
 use Rattle.sector.proofs.Stepping.{counted, summable, settles, tellable, settled}
 use Rattle.sector.proofs.settle.Goals as goal
 
@@ -20,11 +17,7 @@ pub tell_reports-requires : goal.tell_reports-requires
 tell_reports-requires c =
     record { tellable = tellable _ _ _ _ _ c.requires.ready c.requires.paired_up _ c.settle_table.auto.table; room_to_tell = record { for_fates = c.requires.room.for_fates; for_slots = c.requires.room.for_slots; for_shown = c.requires.room.for_shown } }
 
-pub count_all-requires : goal.count_all-requires
-count_all-requires c =
-    rw (length-take-le (length c.args.batch.now) c.tell_reports.new.fates (omega (arith, c.tell_reports.auto, c.requires.room.for_fates))) c.requires.ready.few_reports
-
-pub returns : goal.returns
-returns c =
+pub returns-clause-settled : goal.returns-clause-settled
+returns-clause-settled c =
     let tell-reports = c.tell_reports in
     settled _ _ _ _ _ c.requires.ready c.requires.paired_up c.score_sum-scores.ensures c.count_missed-missed.ensures.coasts c.count_missed-missed.ensures.drops c.settle_table.ensures.table_after c.settle_table.ensures.prices_after tell-reports.ensures.0 tell-reports.ensures.1 tell-reports.ensures.2 tell-reports.ensures.3 c.count_all.ensures

@@ -1,6 +1,6 @@
 use Rattle.fates.specs.Fates.{fate_number}
 use Rattle.sector.specs.Serve.{tally}
-use Rattle.sector.proofs.count_all.Goals as goal
+use Rattle.sector.proofs.Answer.count_all.Goals as goal
 
 pub returns : goal.returns
 unfolding tally fate_number

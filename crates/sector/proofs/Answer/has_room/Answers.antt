@@ -5,7 +5,7 @@ use Rattle.laws.specs.Lists.{first_index}
 use Rattle.laws.proofs.Search.{position_found, none_found}
 use Rattle.laws.proofs.Tests.{holds_first}
 use Rattle.sector.specs.Serve.{rooms}
-use Rattle.sector.proofs.has_room.Goals as goal
+use Rattle.sector.proofs.Answer.has_room.Goals as goal
 
 flip : (a b : Bool) → a ≡ not b → b ≡ not a
 flip a true e = rw e
