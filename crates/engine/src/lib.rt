@@ -24,10 +24,7 @@ fn oust(sheet: Sheet, track: u32, report: u32, pairs: &mut Pairs<'_>)
     let place = track as usize;
     let j = report as usize;
     let loser = pairs.owner[j] as usize;
-    if loser >= pairs.prices.len() {
-        return;
-    }
-    if pairs.prices[loser] >= pairs.prices[place] {
+    if loser >= pairs.prices.len() || pairs.prices[loser] >= pairs.prices[place] {
         return;
     }
     pairs.pairing[loser] = NONE;
@@ -137,11 +134,11 @@ pub fn pair_cells(
         via: &mut via[..reports],
         closings: &mut closings[..reports],
     };
-    let cells = Sheet {
+    let sheet = Sheet {
         cells: sheet,
         reports,
     };
-    assign(cells, &mut pairs, &mut tree, &mut slack[..reports]);
+    assign(sheet, &mut pairs, &mut tree, &mut slack[..reports]);
 }
 
 // The public call: refused by 21 or 22, and then nothing is written; else the lists' first entries are written, and no more.
