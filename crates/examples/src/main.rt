@@ -150,7 +150,7 @@ fn corrections(rt: &HostRuntime) -> io::Result<()> {
 fn fault_number(answer: Result<(), Fault>) -> u8 {
     match answer {
         Ok(()) => 0,
-        Err(fault) => fault as u8,
+        Err(fault) => fault.number(),
     }
 }
 

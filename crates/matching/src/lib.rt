@@ -6,7 +6,7 @@ ghost use Rattle.std.specs.List.{list_all, fold, zip};
 ghost use Rattle.laws.specs.Sums.{sum};
 ghost use Rattle.laws.specs.Lists.{at};
 ghost use Rattle.matching.specs.Pairing.{left_out, HasReport, score_or, total, sheet_of};
-ghost use Rattle.matching.specs.Answer.{sizes_ok, Sizes, cell_ok, cells_ok, entry_ok, pairing_ok, pair_ok, scores_ok, totals_ok, sheet_refusal, check_answer, check_number};
+ghost use Rattle.matching.specs.Answer.{sizes_ok, Sizes, cell_ok, cells_ok, entry_ok, pairing_ok, pair_ok, scores_ok, totals_ok, sheet_refusal, check_answer, fault_number, check_number};
 
 // In a cell: the pair is not admissible. In a pairing: the track is left out.
 pub const NONE: u32 = 4294967295;
@@ -34,6 +34,14 @@ pub enum Fault {
     Scores = 25,
     // All prices less all discounts are not the pairing's total.
     Totals = 26,
+}
+
+impl Fault {
+    pub fn number(self) -> u8
+        ensures { result ≡ fault_number self }
+    {
+        self as u8
+    }
 }
 
 // A score sheet: a row a track, `reports` cells a row.

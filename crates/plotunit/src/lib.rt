@@ -98,7 +98,7 @@ fn told(answer: Result<(), Fault>) -> u8
 {
     match answer {
         Ok(()) => SERVED,
-        Err(fault) => fault as u8,
+        Err(fault) => fault.number(),
     }
 }
 
