@@ -1,12 +1,9 @@
 use Rattle.records.specs.Fields.{WellFormed}
 use Rattle.scoresheet.specs.Cells.{row_of, cells_of}
-use Rattle.scoresheet.proofs.Rows.{row_part, next_row, row_ready, rows_none, rows_more, rows_end}
+use Rattle.scoresheet.proofs.Rows.{row_part, next_row, row_ready, rows_more, rows_end}
 use mathlib.Core.Path.{◌∙◌}
 use native.Mathlib.Omega.{arith}
 use Rattle.scoresheet.proofs.fill_rows.Goals as goal
-
-pub loop-rank-init : goal.loop-rank-init
-loop-rank-init c = rows_none _ _ _
 
 pub offset_bounds-table-k : goal.offset_bounds-table-k
 offset_bounds-table-k c =
@@ -15,19 +12,6 @@ offset_bounds-table-k c =
 pub bounds-table-k : goal.bounds-table-k
 bounds-table-k c =
     (next_row c.requires.ready c.requires.rows_ready c.loop-rank.invariant c.loop-rank-test.true).there
-
-pub overflow_mul-from : goal.overflow_mul-from
-overflow_mul-from c =
-    omega (arith, (next_row c.requires.ready c.requires.rows_ready c.loop-rank.invariant c.loop-rank-test.true).start)
-
-pub overflow_add-to : goal.overflow_add-to
-overflow_add-to c =
-    let n = next_row c.requires.ready c.requires.rows_ready c.loop-rank.invariant c.loop-rank-test.true in
-    omega (arith, n.start, n.few)
-
-pub offset_bounds-sheet-from : goal.offset_bounds-sheet-from
-offset_bounds-sheet-from c =
-    omega (arith, (next_row c.requires.ready c.requires.rows_ready c.loop-rank.invariant c.loop-rank-test.true).start)
 
 pub fill_row-requires : goal.fill_row-requires
 fill_row-requires c =
@@ -41,9 +25,6 @@ loop-rank-preserved c =
     let n = next_row c.requires.ready c.requires.rows_ready c.loop-rank.invariant c.loop-rank-test.true in
     rows_more _ c.loop-rank.invariant c.loop-rank-test.true n.room
     (c.fill_row.ensures ∙ rw c.unpack.ensures)
-
-pub shape_of-sheet : goal.shape_of-sheet
-shape_of-sheet c = c.loop-rank.invariant.so.same
 
 pub returns : goal.returns
 unfolding cells_of

@@ -1,6 +1,5 @@
 use Rattle.scoresheet.proofs.Answers.{by_fault, Listed, listed, few_cells, rows_ready, too_short, served}
 use Rattle.intake.specs.Refusals.{Input, input}
-use lib.Seq.{length-take-le}
 use native.Mathlib.Omega.{arith}
 use mathlib.Core.Path.{sym}
 use Rattle.std.proofs.lemmas.Result.{err_from_is_err_and}
@@ -30,12 +29,6 @@ pub returns-then-sheet-tracks : goal.returns-then-sheet-tracks
 returns-then-sheet-tracks c =
     let w = too_short _ (counts (goal.at.returns-then-sheet-tracks c).In_ok-tracks) c.if-sheet-tracks.true in
     record { answer = w.0; sheet_after = w.1 }
-
-pub slice_bounds-due-end : goal.slice_bounds-due-end
-slice_bounds-due-end c = (counts (goal.at.slice_bounds-due-end c).In_ok-tracks).room
-
-pub slice_bounds-fill_rows-end : goal.slice_bounds-fill_rows-end
-slice_bounds-fill_rows-end c = sym (length-take-le _ _ (counts (goal.at.slice_bounds-fill_rows-end c).In_ok-tracks).room)
 
 pub fill_rows-requires : goal.fill_rows-requires
 fill_rows-requires c = record { ready = (counts (goal.at.fill_rows-requires c).In_ok-tracks).good; rows_ready = rows_ready (counts (goal.at.fill_rows-requires c).In_ok-tracks) c.if-sheet-tracks.false }
