@@ -1,8 +1,8 @@
-// The lines of text that a program prints, put one behind the other into a lent buffer.
+// The lines of text that a program prints, put one behind the other into one buffer.
 #![tactic(auto)]
 
 ghost use Rattle.std.specs.Prelude.{◌≡◌, ◌+◌, ◌*◌, ◌≤◌, length};
-ghost use Rattle.lines.specs.Text.{most_digits, most_number, numeral, separator_of, line_of, Put};
+ghost use Rattle.lines.specs.Text.{most_digits, most_number, numeral, separator_of, line_of, Puts, so_far};
 
 // The digits that io spells a number into.
 const SPELL_ROOM: usize = 20;
@@ -12,24 +12,11 @@ const MOST_DIGITS: usize = 10;
 
 pub const MOST_NUMBER: usize = MOST_DIGITS + 1;
 
-// Puts text at a place; the answer is the place behind it. The place stays a number beside the buffer: the batch program's promises of
-// steps, reads and prints are said of a stand that holds it.
-pub fn put_text(out: &mut [u8], place: usize, text: &[u8]) -> usize
-    requires { place + length text.now ≤ length out.old }
-    ensures { Put out.old place text.now out.new result }
-{
-    let behind = place + text.len();
-    out[place..behind].copy_from_slice(text);
-    behind
-}
-
-fn put_number(out: &mut [u8], place: usize, n: u32) -> usize
-    requires { place + most_digits ≤ length out.old }
-    ensures { Put out.old place (numeral n) out.new result }
-{
-    let mut digits = [0u8; SPELL_ROOM];
-    let k = io::decimal(u64::from(n), &mut digits);
-    put_text(out, place, &digits[..k])
+// Text that gathers in a buffer of a fixed size: the first `filled` of its bytes are the text so far.
+#[derive(Drop)]
+pub struct Text<const N: usize> {
+    pub bytes: [u8; N],
+    pub filled: usize,
 }
 
 // What stands behind a number that so many others follow.
@@ -40,17 +27,46 @@ fn separator(left: usize) -> u8
     if left == 0 { b'\n' } else { b' ' }
 }
 
-// Puts a line of numbers.
-pub fn put_line(out: &mut [u8], place: usize, numbers: &[u32]) -> usize
-    requires { place + length numbers.now * most_number ≤ length out.old }
-    ensures put { Put out.old place (line_of numbers.now) out.new result }
-    ensures in_room { result ≤ place + length numbers.now * most_number }
-{
-    let mut at = place;
-    for (i, n) in numbers.iter().enumerate() {
-        at = put_number(out, at, *n);
-        out[at] = separator(numbers.len() - (i + 1));
-        at += 1;
+impl<const N: usize> Text<N> {
+    // Puts a text behind what has gathered.
+    pub fn put(&mut self, text: &[u8])
+        requires { self.old.filled + length text.now ≤ length self.old.bytes }
+        ensures { Puts self.old text.now self.new }
+    {
+        let behind = self.filled + text.len();
+        let room = &mut self.bytes[..];
+        room[self.filled..behind].copy_from_slice(text);
+        self.filled = behind;
     }
-    at
+
+    fn put_number(&mut self, n: u32)
+        requires { self.old.filled + most_digits ≤ length self.old.bytes }
+        ensures { Puts self.old (numeral n) self.new }
+    {
+        let mut digits = [0u8; SPELL_ROOM];
+        let k = io::decimal(u64::from(n), &mut digits);
+        self.put(&digits[..k]);
+    }
+
+    // Puts a line of numbers.
+    pub fn put_line(&mut self, numbers: &[u32])
+        requires { self.old.filled + length numbers.now * most_number ≤ length self.old.bytes }
+        ensures put { Puts self.old (line_of numbers.now) self.new }
+        ensures in_room { self.new.filled ≤ self.old.filled + length numbers.now * most_number }
+    {
+        for (i, n) in numbers.iter().enumerate() {
+            self.put_number(*n);
+            self.bytes[self.filled] = separator(numbers.len() - (i + 1));
+            self.filled += 1;
+        }
+    }
+
+    // The text so far.
+    pub fn so_far(&self) -> &[u8]
+        requires { self.now.filled ≤ length self.now.bytes }
+        ensures { result.now ≡ so_far self.now }
+    {
+        let room = &self.bytes[..];
+        &room[..self.filled]
+    }
 }
