@@ -28,6 +28,16 @@ fn separator(left: usize) -> u8
 }
 
 impl<const N: usize> Text<N> {
+    pub fn new() -> Self
+        ensures sized { length result.bytes ≡ N }
+        ensures empty { result.filled ≡ 0 }
+    {
+        Text {
+            bytes: [0; N],
+            filled: 0,
+        }
+    }
+
     // Puts a text behind what has gathered.
     pub fn put(&mut self, text: &[u8])
         requires { self.old.filled + length text.now ≤ length self.old.bytes }
