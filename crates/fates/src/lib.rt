@@ -8,6 +8,7 @@ ghost use Rattle.intake.specs.Refusals.{most_slots, most_batch};
 ghost use Rattle.fates.specs.Fates.{handed, free_slot, is_shown, no_track, told_unpaired, after_unpaired, fate_number};
 ghost use Rattle.fates.specs.Fates.{told_of, after_report, started_table, fates_of, slots_of, shown_of, count_of, Tellable, RoomToTell};
 
+use intake::Call;
 use records::Report;
 
 // What became of a report, by its number in the list of fates.
@@ -103,17 +104,16 @@ fn tell_unpaired(
 // Report j, in the table as the reports before it left it; `free` is the lowest free slot.
 fn tell_report(
     table: &mut [[u8; records::SLOT_BYTES]],
-    sector: u8,
-    batch: &[[u8; records::REPORT_BYTES]],
+    call: Call,
     due: &[usize],
     pairing: &[u32],
     free: Option<usize>,
     j: usize,
 ) -> Told
-    requires tellable { Tellable (handed due.now sector batch.now) pairing.now table.old }
-    requires next_free { (free ≡ position is_free table.old) × (j < length batch.now) }
-    ensures told { result ≡ told_of (handed due.now sector batch.now) pairing.now j table.old }
-    ensures table_after { table.new ≡ after_report (handed due.now sector batch.now) pairing.now j table.old }
+    requires tellable { Tellable (handed due.now call.sector call.batch.now) pairing.now table.old }
+    requires next_free { (free ≡ position is_free table.old) × (j < length call.batch.now) }
+    ensures told { result ≡ told_of (handed due.now call.entry.sector call.entry.batch.now) pairing.now j table.old }
+    ensures table_after { table.new ≡ after_report (handed due.now call.entry.sector call.entry.batch.now) pairing.now j table.old }
 {
     match owner_of(pairing, j as u32) {
         Some(rank) => {
@@ -124,7 +124,12 @@ fn tell_report(
                 shown: is_shown(table[k]),
             }
         }
-        None => tell_unpaired(table, sector, records::unpack_report(batch[j]), free),
+        None => tell_unpaired(
+            table,
+            call.sector,
+            records::unpack_report(call.batch[j]),
+            free,
+        ),
     }
 }
 
@@ -132,26 +137,25 @@ fn tell_report(
 // `pairing` has a report number for each; a due track without a pair names no report of the batch.
 pub fn tell_reports(
     table: &mut [[u8; records::SLOT_BYTES]],
-    sector: u8,
-    batch: &[[u8; records::REPORT_BYTES]],
+    call: Call,
     due: &[usize],
     pairing: &[u32],
     fates: &mut [u8],
     slots: &mut [u16],
     shown: &mut [u8],
 )
-    requires tellable { Tellable (handed due.now sector batch.now) pairing.now table.old }
-    requires room_to_tell { RoomToTell (length batch.now) fates.old slots.old shown.old }
-    ensures { (table.new ≡ started_table (handed due.now sector batch.now) pairing.now table.old)
-        × (fates.new ≡ fates_of (handed due.now sector batch.now) pairing.now table.old ++ drop (length batch.now) fates.old)
-        × (slots.new ≡ slots_of (handed due.now sector batch.now) pairing.now table.old ++ drop (length batch.now) slots.old)
-        × (shown.new ≡ shown_of (handed due.now sector batch.now) pairing.now table.old ++ drop (length batch.now) shown.old) }
+    requires tellable { Tellable (handed due.now call.sector call.batch.now) pairing.now table.old }
+    requires room_to_tell { RoomToTell (length call.batch.now) fates.old slots.old shown.old }
+    ensures { (table.new ≡ started_table (handed due.now call.entry.sector call.entry.batch.now) pairing.now table.old)
+        × (fates.new ≡ fates_of (handed due.now call.entry.sector call.entry.batch.now) pairing.now table.old ++ drop (length call.entry.batch.now) fates.old)
+        × (slots.new ≡ slots_of (handed due.now call.entry.sector call.entry.batch.now) pairing.now table.old ++ drop (length call.entry.batch.now) slots.old)
+        × (shown.new ≡ shown_of (handed due.now call.entry.sector call.entry.batch.now) pairing.now table.old ++ drop (length call.entry.batch.now) shown.old) }
 {
     let mut from: usize = 0;
-    for j in 0..batch.len() {
+    for j in 0..call.batch.len() {
         let free = free_from(table, from);
         from = free.unwrap_or(table.len());
-        let told = tell_report(table, sector, batch, due, pairing, free, j);
+        let told = tell_report(table, call, due, pairing, free, j);
         fates[j] = told.fate as u8;
         slots[j] = told.slot.unwrap_or(NO_SLOT);
         shown[j] = u8::from(told.shown);

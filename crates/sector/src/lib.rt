@@ -1,9 +1,9 @@
 // The sector call: one call serves one sector.
 #![tactic(auto)]
 
-ghost use Rattle.std.specs.Prelude.{◌≡◌, ◌*◌, ◌<◌, ◌≤◌, length, take};
+ghost use Rattle.std.specs.Prelude.{◌≡◌, ◌<◌, ◌≤◌, length, take};
 ghost use Rattle.numbers.specs.Sectors.{next_sector};
-ghost use Rattle.intake.specs.Refusals.{input, input_in, most_due, most_batch, due_slots, Ready};
+ghost use Rattle.intake.specs.Refusals.{input, input_in, most_batch, due_slots, Ready};
 ghost use Rattle.sector.specs.Steps.{Pairable, PairedUp, PairedOff};
 ghost use Rattle.sector.specs.Settled.{SettledAs};
 ghost use Rattle.sector.specs.Serve.{lent, tally, ServedWith, ServesSector};
@@ -124,8 +124,7 @@ fn settle(
     walk::settle_table(table, call, due, pairing, track_prices, answer.prices);
     fates::tell_reports(
         table,
-        call.sector,
-        call.batch,
+        call,
         due,
         pairing,
         answer.fates,
@@ -190,17 +189,11 @@ fn serve_due(
     settle(table, call, due, sheet, pairing, track_prices, answer)
 }
 
-// Lists of its own for a call: the sheet, and an entry a due track.
-fn blank_sheet() -> [u32; MOST_CELLS]
-    ensures { length result ≡ most_due * most_batch }
+// A list of a call's own.
+fn blank<const N: usize>() -> [u32; N]
+    ensures { length result ≡ N }
 {
-    [0; MOST_CELLS]
-}
-
-fn blank_list() -> [u32; intake::MOST_DUE]
-    ensures { length result ≡ most_due }
-{
-    [0; intake::MOST_DUE]
+    [0; N]
 }
 
 // A call that is refused by nothing, with its due list.
@@ -219,9 +212,9 @@ fn serve(
 {
     let tracks = due.len();
     let cells = tracks * call.batch.len();
-    let mut sheet = blank_sheet();
-    let mut pairing = blank_list();
-    let mut track_prices = blank_list();
+    let mut sheet: [u32; MOST_CELLS] = blank();
+    let mut pairing: [u32; intake::MOST_DUE] = blank();
+    let mut track_prices: [u32; intake::MOST_DUE] = blank();
     serve_due(
         table,
         call,

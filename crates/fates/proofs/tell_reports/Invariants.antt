@@ -17,4 +17,4 @@ pub record Inv (h : Handed) (P : List ℕ) (table₀ table : List (List ℕ)) (f
   pub show : Answered (after_report h P) (shown_out h P) (numbers (length h.batch)) table₀ table shown shown₀ j
 
 abbrev pub invariant-loop-j : goal.invariant-loop-j
-invariant-loop-j l = Inv (handed l.due l.sector l.batch) l.pairing l.initial.table l.table l.initial.fates l.fates l.initial.slots l.slots l.initial.shown l.shown l.from l.j
+invariant-loop-j l = Inv (handed l.due l.call.sector l.call.batch.now) l.pairing l.initial.table l.table l.initial.fates l.fates l.initial.slots l.slots l.initial.shown l.shown l.from l.j
