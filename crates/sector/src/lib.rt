@@ -13,7 +13,7 @@ ghost use Rattle.laws.specs.Tests.{holds};
 ghost use Rattle.matching.specs.Pairing.{score_end, sheet_of, score_or, sum_of_scores};
 ghost use Rattle.sector.specs.Sum.{Summable};
 
-use fates::Fate;
+use fates::{Assigned, Fate};
 use intake::{Call, Refusal};
 use records::Site;
 use walk::MissedCounts;
@@ -125,8 +125,7 @@ fn settle(
     fates::tell_reports(
         table,
         call,
-        due,
-        pairing,
+        Assigned { due, pairing },
         answer.fates,
         answer.slots,
         answer.shown,
