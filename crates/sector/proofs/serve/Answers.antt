@@ -1,9 +1,5 @@
-use native.Mathlib.Omega.{arith}
 use Rattle.sector.proofs.Lists.{due_listed, pairable}
 use Rattle.sector.proofs.serve.Goals as goal
-
-pub overflow_mul-cells : goal.overflow_mul-cells
-overflow_mul-cells c = omega (arith, (due_listed c.requires.ready c.requires.due_listed).cells)
 
 pub serve_due-requires-clause-pairable : goal.serve_due-requires-clause-pairable
 serve_due-requires-clause-pairable c =

@@ -1,12 +1,10 @@
 use borrow.Author.Rules.{rules}
 use mathlib.Core.Path.{sym, ◌∙◌}
-use lib.Seq.{length-take-le}
 use Rattle.intake.proofs.Readiness.{ready}
 use Rattle.scoresheet.specs.Cells.{reports_of}
 use Rattle.sector.specs.Serve.{room_for}
 use Rattle.std.proofs.lemmas.Result.{err_from_is_err_and}
 use Rattle.sector.proofs.Answering.{written, room_facts, by_fault, by_room, by_serving}
-use Rattle.laws.proofs.Parts.{listed_room}
 use Rattle.sector.proofs.serve_sector.Goals as goal
 
 pub returns-in_err-tracks : goal.returns-in_err-tracks
@@ -18,14 +16,11 @@ pub returns-then-not-has_room : goal.returns-then-not-has_room
 unfolding room_for reports_of
 returns-then-not-has_room c = by_room _ _ (sym c.in_ok-tracks.ensures.fault) (sym c.has_room.ensures ∙ c.if-not-has_room.true)
 
-pub slice_bounds-due-end : goal.slice_bounds-due-end
-slice_bounds-due-end c = listed_room _ _ c.in_ok-tracks.ensures.due_listed.0 c.in_ok-tracks.ensures.due_listed.1
+pub serve-counts-requires-clause-ready : goal.serve-counts-requires-clause-ready
+serve-counts-requires-clause-ready c = ready _ (sym c.in_ok-tracks.ensures.fault)
 
-pub slice_bounds-serve-end : goal.slice_bounds-serve-end
-slice_bounds-serve-end c = sym (length-take-le _ _ (listed_room _ _ c.in_ok-tracks.ensures.due_listed.0 c.in_ok-tracks.ensures.due_listed.1))
-
-pub serve-counts-requires : goal.serve-counts-requires
-serve-counts-requires c = record { ready = ready _ (sym c.in_ok-tracks.ensures.fault); due_listed = c.in_ok-tracks.ensures.due_listed.1; room = room_facts (sym c.has_room.ensures ∙ c.if-not-has_room.false) }
+pub serve-counts-requires-clause-room : goal.serve-counts-requires-clause-room
+serve-counts-requires-clause-room c = room_facts (sym c.has_room.ensures ∙ c.if-not-has_room.false)
 
 pub next_sector-requires : goal.next_sector-requires
 next_sector-requires c = (ready _ (sym c.in_ok-tracks.ensures.fault)).sector_in
