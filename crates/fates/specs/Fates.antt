@@ -6,7 +6,9 @@ use Rattle.records.specs.Fields.{is_weak}
 use Rattle.records.specs.Bytes.{track_of, bytes_of, report_of, is_free}
 use Rattle.numbers.specs.Scales.{sectors}
 use Rattle.settling.specs.Settle.{started_of}
+use Rattle.intake.specs.declared.Call.{Call}
 use Rattle.intake.specs.Refusals.{most_slots, most_batch}
+use Rattle.fates.specs.declared.Assigned.{Assigned}
 use Rattle.fates.specs.declared.Fate.{Fate}
 use Rattle.fates.specs.declared.Fate.TheVariants.{Paired, Started, Weak, Full}
 use Rattle.fates.specs.declared.Told.{Told}
@@ -53,6 +55,9 @@ pub record Handed : Type 0 where
 
 abbrev pub handed : List ℕ → ℕ → List (List ℕ) → Handed
 handed due sector batch = record { due = due; sector = sector; batch = batch }
+
+abbrev pub handed_in : Assigned → Call → Handed
+handed_in assigned call = handed assigned.due.now call.sector call.batch.now
 
 -- the lowest free slot, or the table's length
 unfoldable pub free_slot : List (List ℕ) → ℕ

@@ -5,9 +5,10 @@ ghost use Rattle.std.specs.Prelude.{◌≡◌, ◌++◌, ◌≤◌, ◌<◌, ◌
 ghost use Rattle.numbers.specs.Scales.{sectors};
 ghost use Rattle.records.specs.Bytes.{is_free};
 ghost use Rattle.intake.specs.Refusals.{most_slots, most_batch};
-ghost use Rattle.fates.specs.Fates.{handed, free_slot, is_shown, no_track, told_unpaired, after_unpaired, fate_number};
+ghost use Rattle.fates.specs.Fates.{handed_in, free_slot, is_shown, no_track, told_unpaired, after_unpaired, fate_number};
 ghost use Rattle.fates.specs.Fates.{told_of, after_report, started_table, fates_of, slots_of, shown_of, count_of, Tellable, RoomToTell};
 
+use intake::Call;
 use records::Report;
 
 // What became of a report, by its number in the list of fates.
@@ -30,6 +31,15 @@ pub struct Told {
     pub fate: Fate,
     pub slot: Option<u16>,
     pub shown: bool,
+}
+
+// Which report each due track has.
+#[derive(Clone, Copy)]
+pub struct Assigned<'a> {
+    // the due tracks' slots, as the call found them
+    pub due: &'a [usize],
+    // a report number for each; a due track without a pair names no report of the batch
+    pub pairing: &'a [u32],
 }
 
 // The rank of the due track that has report j.
@@ -103,55 +113,55 @@ fn tell_unpaired(
 // Report j, in the table as the reports before it left it; `free` is the lowest free slot.
 fn tell_report(
     table: &mut [[u8; records::SLOT_BYTES]],
-    sector: u8,
-    batch: &[[u8; records::REPORT_BYTES]],
-    due: &[usize],
-    pairing: &[u32],
+    call: Call,
+    assigned: Assigned,
     free: Option<usize>,
     j: usize,
 ) -> Told
-    requires tellable { Tellable (handed due.now sector batch.now) pairing.now table.old }
-    requires next_free { (free ≡ position is_free table.old) × (j < length batch.now) }
-    ensures told { result ≡ told_of (handed due.now sector batch.now) pairing.now j table.old }
-    ensures table_after { table.new ≡ after_report (handed due.now sector batch.now) pairing.now j table.old }
+    requires tellable { Tellable (handed_in assigned call) assigned.pairing.now table.old }
+    requires next_free { (free ≡ position is_free table.old) × (j < length call.batch.now) }
+    ensures told { result ≡ told_of (handed_in assigned.entry call.entry) assigned.entry.pairing.now j table.old }
+    ensures table_after { table.new ≡ after_report (handed_in assigned.entry call.entry) assigned.entry.pairing.now j table.old }
 {
-    match owner_of(pairing, j as u32) {
+    match owner_of(assigned.pairing, j as u32) {
         Some(rank) => {
-            let k = due[rank];
+            let k = assigned.due[rank];
             Told {
                 fate: Fate::Paired,
                 slot: Some(k as u16),
                 shown: is_shown(table[k]),
             }
         }
-        None => tell_unpaired(table, sector, records::unpack_report(batch[j]), free),
+        None => tell_unpaired(
+            table,
+            call.sector,
+            records::unpack_report(call.batch[j]),
+            free,
+        ),
     }
 }
 
-// Every report in batch order, from the table as pairing left it. `due` lists the due tracks' slots as the call found them,
-// `pairing` has a report number for each; a due track without a pair names no report of the batch.
+// Every report in batch order, from the table as pairing left it.
 pub fn tell_reports(
     table: &mut [[u8; records::SLOT_BYTES]],
-    sector: u8,
-    batch: &[[u8; records::REPORT_BYTES]],
-    due: &[usize],
-    pairing: &[u32],
+    call: Call,
+    assigned: Assigned,
     fates: &mut [u8],
     slots: &mut [u16],
     shown: &mut [u8],
 )
-    requires tellable { Tellable (handed due.now sector batch.now) pairing.now table.old }
-    requires room_to_tell { RoomToTell (length batch.now) fates.old slots.old shown.old }
-    ensures { (table.new ≡ started_table (handed due.now sector batch.now) pairing.now table.old)
-        × (fates.new ≡ fates_of (handed due.now sector batch.now) pairing.now table.old ++ drop (length batch.now) fates.old)
-        × (slots.new ≡ slots_of (handed due.now sector batch.now) pairing.now table.old ++ drop (length batch.now) slots.old)
-        × (shown.new ≡ shown_of (handed due.now sector batch.now) pairing.now table.old ++ drop (length batch.now) shown.old) }
+    requires tellable { Tellable (handed_in assigned call) assigned.pairing.now table.old }
+    requires room_to_tell { RoomToTell (length call.batch.now) fates.old slots.old shown.old }
+    ensures { (table.new ≡ started_table (handed_in assigned.entry call.entry) assigned.entry.pairing.now table.old)
+        × (fates.new ≡ fates_of (handed_in assigned.entry call.entry) assigned.entry.pairing.now table.old ++ drop (length call.entry.batch.now) fates.old)
+        × (slots.new ≡ slots_of (handed_in assigned.entry call.entry) assigned.entry.pairing.now table.old ++ drop (length call.entry.batch.now) slots.old)
+        × (shown.new ≡ shown_of (handed_in assigned.entry call.entry) assigned.entry.pairing.now table.old ++ drop (length call.entry.batch.now) shown.old) }
 {
     let mut from: usize = 0;
-    for j in 0..batch.len() {
+    for j in 0..call.batch.len() {
         let free = free_from(table, from);
         from = free.unwrap_or(table.len());
-        let told = tell_report(table, sector, batch, due, pairing, free, j);
+        let told = tell_report(table, call, assigned, free, j);
         fates[j] = told.fate as u8;
         slots[j] = told.slot.unwrap_or(NO_SLOT);
         shown[j] = u8::from(told.shown);

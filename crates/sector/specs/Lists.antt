@@ -1,7 +1,9 @@
--- The lists of an answer, as what is lent.
+-- The lists of an answer, as what is lent; and those of a worksheet, as what the steps count on.
 use Rattle.std.specs.Prelude.{ℕ, ◌≡◌, Bool, List, length}
+use Rattle.intake.specs.Refusals.{Input}
 use Rattle.sector.specs.declared.Answer.{Answer}
-use Rattle.sector.specs.Steps.{Room}
+use Rattle.sector.specs.declared.Worksheet.{Worksheet}
+use Rattle.sector.specs.Steps.{Room, Pairable, PairedUp, PairedOff}
 use Rattle.sector.specs.Serve.{Lent, lent, rooms}
 
 abbrev pub lent_in : List (List ℕ) → ℕ → Answer → Lent
@@ -22,3 +24,12 @@ pub record SameLists (a a' : Answer) : Type 0 where
   pub shown : a'.shown.ghost_name ≡ a.shown.ghost_name
   pub discounts : a'.discounts.ghost_name ≡ a.discounts.ghost_name
   pub prices : a'.prices.ghost_name ≡ a.prices.ghost_name
+
+abbrev pub PairableIn : Input → (due : List ℕ) → Worksheet → (discounts : List ℕ) → Type 0
+PairableIn i due w discounts = Pairable i due w.cells.now w.pairing.now w.prices.now discounts
+
+abbrev pub PairedUpIn : Input → (due : List ℕ) → Worksheet → Type 0
+PairedUpIn i due w = PairedUp i due w.cells.now w.pairing.now w.prices.now
+
+abbrev pub PairedOffIn : Input → (due : List ℕ) → Worksheet → (discounts discounts' : List ℕ) → Type 0
+PairedOffIn i due w discounts discounts' = PairedOff i due w.cells.now w.pairing.now w.prices.now discounts discounts'

@@ -1,19 +1,18 @@
 // The sector call: one call serves one sector.
 #![tactic(auto)]
 
-ghost use Rattle.std.specs.Prelude.{◌≡◌, ◌*◌, ◌<◌, ◌≤◌, length, take};
+ghost use Rattle.std.specs.Prelude.{◌≡◌, ◌<◌, ◌≤◌, length, take};
 ghost use Rattle.numbers.specs.Sectors.{next_sector};
-ghost use Rattle.intake.specs.Refusals.{input, input_in, most_due, most_batch, due_slots, Ready};
-ghost use Rattle.sector.specs.Steps.{Pairable, PairedUp, PairedOff};
+ghost use Rattle.intake.specs.Refusals.{input, input_in, most_batch, due_slots, Ready};
 ghost use Rattle.sector.specs.Settled.{SettledAs};
 ghost use Rattle.sector.specs.Serve.{lent, tally, ServedWith, ServesSector};
-ghost use Rattle.sector.specs.Lists.{lent_in, rooms_in, RoomIn, SameLists};
+ghost use Rattle.sector.specs.Lists.{lent_in, rooms_in, RoomIn, SameLists, PairableIn, PairedUpIn, PairedOffIn};
 ghost use Rattle.laws.specs.Lists.{at};
 ghost use Rattle.laws.specs.Tests.{holds};
 ghost use Rattle.matching.specs.Pairing.{score_end, sheet_of, score_or, sum_of_scores};
 ghost use Rattle.sector.specs.Sum.{Summable};
 
-use fates::Fate;
+use fates::{Assigned, Fate};
 use intake::{Call, Refusal};
 use records::Site;
 use walk::MissedCounts;
@@ -77,6 +76,17 @@ impl Answer<'_> {
     }
 }
 
+// The sheet of a call's due tracks and its batch, and what pairing gives each of the tracks.
+#[derive(Drop)]
+struct Worksheet<'a> {
+    // a score a pair
+    cells: &'a mut [u32],
+    // a report number a due track
+    pairing: &'a mut [u32],
+    // a price a due track
+    prices: &'a mut [u32],
+}
+
 // The score of a due track's pair, or 0 where it has none.
 fn pair_score(sheet: &[u32], reports: usize, pairing: &[u32], track: usize) -> u32
     requires summable { Summable reports sheet.now pairing.now }
@@ -107,27 +117,26 @@ fn settle(
     table: &mut [[u8; records::SLOT_BYTES]],
     call: Call,
     due: &[usize],
-    sheet: &[u32],
-    pairing: &[u32],
-    track_prices: &[u32],
+    sheet: &Worksheet<'_>,
     answer: &mut Answer<'_>,
 ) -> Counts
     requires ready { Ready (input_in table.old call) }
-    requires paired_up { PairedUp (input_in table.old call) due.now sheet.now pairing.now track_prices.now }
+    requires paired_up { PairedUpIn (input_in table.old call) due.now sheet.now }
     requires room { RoomIn (length table.old) (length call.batch.now) answer.old }
-    ensures settled { SettledAs (input_in table.old call.entry) pairing.now track_prices.now (lent_in table.old call.entry.sector answer.old) (lent_in table.new call.entry.sector answer.new) result }
+    ensures settled { SettledAs (input_in table.old call.entry) sheet.now.pairing.now sheet.now.prices.now (lent_in table.old call.entry.sector answer.old) (lent_in table.new call.entry.sector answer.new) result }
     ensures same_lists { SameLists answer.old answer.new }
 {
     let reports = call.batch.len();
-    let scores = score_sum(sheet, reports, pairing);
-    let missed = walk::count_missed(table, call, due, pairing);
-    walk::settle_table(table, call, due, pairing, track_prices, answer.prices);
+    let scores = score_sum(sheet.cells, reports, sheet.pairing);
+    let missed = walk::count_missed(table, call, due, sheet.pairing);
+    walk::settle_table(table, call, due, sheet.pairing, sheet.prices, answer.prices);
     fates::tell_reports(
         table,
-        call.sector,
-        call.batch,
-        due,
-        pairing,
+        call,
+        Assigned {
+            due,
+            pairing: sheet.pairing,
+        },
         answer.fates,
         answer.slots,
         answer.shown,
@@ -140,67 +149,50 @@ fn pair_up(
     table: &[[u8; records::SLOT_BYTES]],
     call: Call,
     due: &[usize],
-    sheet: &mut [u32],
-    pairing: &mut [u32],
-    track_prices: &mut [u32],
+    sheet: &mut Worksheet<'_>,
     discounts: &mut [u32],
 )
     requires ready { Ready (input_in table.now call) }
-    requires pairable { Pairable (input_in table.now call) due.now sheet.old pairing.old track_prices.old discounts.old }
-    ensures { PairedOff (input_in table.now call.entry) due.now sheet.new pairing.new track_prices.new discounts.old discounts.new }
+    requires pairable { PairableIn (input_in table.now call) due.now sheet.old discounts.old }
+    ensures { PairedOffIn (input_in table.now call.entry) due.now sheet.new discounts.old discounts.new }
 {
-    scoresheet::fill_rows(table, call, due, sheet);
+    let cells = &mut *sheet.cells;
+    scoresheet::fill_rows(table, call, due, cells);
     // The sheet is not refused: its sizes and cells are the sector's.
     let _ = engine::pair_sheet(
         due.len(),
         call.batch.len(),
-        sheet,
-        pairing,
-        track_prices,
+        cells,
+        sheet.pairing,
+        sheet.prices,
         discounts,
     );
 }
 
-// A call that is refused by nothing, with its due list and its working lists: score, pair, settle.
+// A call that is refused by nothing, with its due list and a sheet of the right size: score, pair, settle.
 fn serve_due(
     table: &mut [[u8; records::SLOT_BYTES]],
     call: Call,
     due: &[usize],
-    sheet: &mut [u32],
-    pairing: &mut [u32],
-    track_prices: &mut [u32],
+    sheet: &mut Worksheet<'_>,
     answer: &mut Answer<'_>,
 ) -> Counts
     requires ready { Ready (input_in table.old call) }
-    requires pairable { Pairable (input_in table.old call) due.now sheet.old pairing.old track_prices.old answer.old.discounts.now }
+    requires pairable { PairableIn (input_in table.old call) due.now sheet.old answer.old.discounts.now }
     requires room { RoomIn (length table.old) (length call.batch.now) answer.old }
     ensures served { ServedWith (input_in table.old call.entry)
         (lent_in table.old call.entry.sector answer.old) (lent_in table.new (next_sector call.entry.sector) answer.new) result }
     ensures same_lists { SameLists answer.old answer.new }
 {
-    pair_up(
-        table,
-        call,
-        due,
-        sheet,
-        pairing,
-        track_prices,
-        answer.discounts,
-    );
-    settle(table, call, due, sheet, pairing, track_prices, answer)
+    pair_up(table, call, due, sheet, answer.discounts);
+    settle(table, call, due, sheet, answer)
 }
 
-// Lists of its own for a call: the sheet, and an entry a due track.
-fn blank_sheet() -> [u32; MOST_CELLS]
-    ensures { length result ≡ most_due * most_batch }
+// A list of a call's own.
+fn blank<const N: usize>() -> [u32; N]
+    ensures { length result ≡ N }
 {
-    [0; MOST_CELLS]
-}
-
-fn blank_list() -> [u32; intake::MOST_DUE]
-    ensures { length result ≡ most_due }
-{
-    [0; intake::MOST_DUE]
+    [0; N]
 }
 
 // A call that is refused by nothing, with its due list.
@@ -219,18 +211,15 @@ fn serve(
 {
     let tracks = due.len();
     let cells = tracks * call.batch.len();
-    let mut sheet = blank_sheet();
-    let mut pairing = blank_list();
-    let mut track_prices = blank_list();
-    serve_due(
-        table,
-        call,
-        due,
-        &mut sheet[..cells],
-        &mut pairing[..tracks],
-        &mut track_prices[..tracks],
-        answer,
-    )
+    let mut scores: [u32; MOST_CELLS] = blank();
+    let mut pairing: [u32; intake::MOST_DUE] = blank();
+    let mut prices: [u32; intake::MOST_DUE] = blank();
+    let mut sheet = Worksheet {
+        cells: &mut scores[..cells],
+        pairing: &mut pairing[..tracks],
+        prices: &mut prices[..tracks],
+    };
+    serve_due(table, call, due, &mut sheet, answer)
 }
 
 // The public call: refused by 1 to 9, and then nothing that was lent changes; else the sector is served.

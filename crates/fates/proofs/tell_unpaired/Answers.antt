@@ -17,9 +17,6 @@ pub pack-requires : goal.pack-requires
 unfolding started_of
 pack-requires c = rw c.started.ensures (omega arith)
 
-pub bounds-table-k : goal.bounds-table-k
-bounds-table-k c = (free_found _ (sym c.in-Some.is ∙ c.requires.2)).1
-
 pub returns-in-Some : goal.returns-in-Some
 unfolding told_unpaired after_unpaired fate_number
 returns-in-Some c =

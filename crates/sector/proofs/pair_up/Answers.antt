@@ -1,9 +1,8 @@
 use Rattle.sector.proofs.Choosing.{rows_room, paired_off}
 use Rattle.sector.proofs.pair_up.Goals as goal
 
-pub fill_rows-requires : goal.fill_rows-requires
-fill_rows-requires c =
-    record { ready = c.requires.ready; rows_ready = rows_room _ _ _ _ _ _ c.requires.ready c.requires.pairable }
+pub fill_rows-requires-clause-rows_ready : goal.fill_rows-requires-clause-rows_ready
+fill_rows-requires-clause-rows_ready c = rows_room _ _ _ _ _ _ c.requires.ready c.requires.pairable
 
 pub returns : goal.returns
 returns c =

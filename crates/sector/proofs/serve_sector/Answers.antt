@@ -16,8 +16,11 @@ pub returns-then-not-has_room : goal.returns-then-not-has_room
 unfolding room_for reports_of
 returns-then-not-has_room c = by_room _ _ (sym c.in_ok-tracks.ensures.fault) (sym c.has_room.ensures ∙ c.if-not-has_room.true)
 
-pub serve-counts-requires : goal.serve-counts-requires
-serve-counts-requires c = record { ready = ready _ (sym c.in_ok-tracks.ensures.fault); due_listed = c.in_ok-tracks.ensures.due_listed.1; room = room_facts (sym c.has_room.ensures ∙ c.if-not-has_room.false) }
+pub serve-counts-requires-clause-ready : goal.serve-counts-requires-clause-ready
+serve-counts-requires-clause-ready c = ready _ (sym c.in_ok-tracks.ensures.fault)
+
+pub serve-counts-requires-clause-room : goal.serve-counts-requires-clause-room
+serve-counts-requires-clause-room c = room_facts (sym c.has_room.ensures ∙ c.if-not-has_room.false)
 
 pub next_sector-requires : goal.next_sector-requires
 next_sector-requires c = (ready _ (sym c.in_ok-tracks.ensures.fault)).sector_in

@@ -5,17 +5,14 @@ pub score_sum-scores-requires : goal.score_sum-scores-requires
 score_sum-scores-requires c =
     summable _ _ _ _ _ c.requires.ready c.requires.paired_up
 
-pub count_missed-missed-requires : goal.count_missed-missed-requires
-count_missed-missed-requires c =
-    record { ready = c.requires.ready; due_listed = counted _ _ _ _ _ c.requires.ready c.requires.paired_up }
+pub count_missed-missed-requires-clause-due_listed : goal.count_missed-missed-requires-clause-due_listed
+count_missed-missed-requires-clause-due_listed c = counted _ _ _ _ _ c.requires.ready c.requires.paired_up
 
-pub settle_table-requires : goal.settle_table-requires
-settle_table-requires c =
-    record { ready = c.requires.ready; table_ready = settles _ _ _ _ _ c.requires.ready c.requires.paired_up _ c.requires.room.for_prices }
+pub settle_table-requires-clause-table_ready : goal.settle_table-requires-clause-table_ready
+settle_table-requires-clause-table_ready c = settles _ _ _ _ _ c.requires.ready c.requires.paired_up _ c.requires.room.for_prices
 
-pub tell_reports-requires : goal.tell_reports-requires
-tell_reports-requires c =
-    record { tellable = tellable _ _ _ _ _ c.requires.ready c.requires.paired_up _ c.settle_table.auto.table; room_to_tell = record { for_fates = c.requires.room.for_fates; for_slots = c.requires.room.for_slots; for_shown = c.requires.room.for_shown } }
+pub tell_reports-requires-clause-tellable : goal.tell_reports-requires-clause-tellable
+tell_reports-requires-clause-tellable c = tellable _ _ _ _ _ c.requires.ready c.requires.paired_up _ c.settle_table.auto.table
 
 pub returns-clause-settled : goal.returns-clause-settled
 returns-clause-settled c =
