@@ -1,5 +1,4 @@
 -- Laws of the sector call.
-pub mod Summing
 pub mod Stepping
 pub mod Choosing
 pub mod Serving
