@@ -20,7 +20,7 @@ pub enum Fate {
     Full = 4,
 }
 
-// The slot of a report that has none, in the list of slots.
+// The slot of a report that has none, in the list of slots, which C lends.
 const NO_SLOT: u16 = 65_535;
 
 const SHOWN_FROM: u8 = 3;

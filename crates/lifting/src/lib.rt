@@ -93,6 +93,7 @@ pub fn highest(prices: &[u32]) -> u32
 }
 
 // A price and its track in one key, and one more; 0 for a track with a report, or left out at the full price: it is not in the queue.
+// Keys are plain numbers, so that the loop round them goes by vectors.
 fn queue_key(pairing: u32, price: u32, track: u32) -> u32
     requires { track < most_tracks }
     ensures { (result ≡ 0) ⊎ ((pairing ≡ none) × ((0 < result) × ((result - 1) % key_places ≡ track))) }

@@ -8,7 +8,7 @@ ghost use Rattle.laws.specs.Lists.{at};
 ghost use Rattle.matching.specs.Pairing.{left_out, HasReport, score_or, total, sheet_of};
 ghost use Rattle.matching.specs.Answer.{sizes_ok, Sizes, cell_ok, cells_ok, entry_ok, pairing_ok, pair_ok, scores_ok, totals_ok, sheet_refusal, check_answer, fault_number, check_number};
 
-// In a cell: the pair is not admissible. In a pairing: the track is left out.
+// In a cell: the pair is not admissible. In a pairing: the track is left out. A number and no Option, since C lends these lists.
 pub const NONE: u32 = 4294967295;
 // A score is below this.
 pub const SCORE_END: u32 = 2097152;

@@ -43,7 +43,7 @@ fn choose(a: u32, b: u32, x: u32, y: u32) -> u32
     if b <= a { y } else { x }
 }
 
-// A track at this label offers to every report of its row.
+// A track at this label offers to every report of its row. The lists come one by one: they lie in three structs of paths.
 pub fn relax(
     cells: &[u32],
     discounts: &[u32],
