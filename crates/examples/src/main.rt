@@ -16,14 +16,14 @@ const SIGMA: u8 = 16;
 
 const UPDATES: u8 = 8;
 
-fn signed_line(rt: &HostRuntime, name: &str, value: i64) -> io::Result<()> {
+fn number_line(rt: &HostRuntime, name: &str, value: i64) -> io::Result<()> {
     println!(rt; "{name}{value}")
 }
 
 fn azimuths(rt: &HostRuntime) -> io::Result<()> {
-    signed_line(rt, "0 - 65535 = ", numbers::azimuth_difference(0, 65_535))?;
-    signed_line(rt, "32768 - 0 = ", numbers::azimuth_difference(32_768, 0))?;
-    signed_line(rt, "32767 - 0 = ", numbers::azimuth_difference(32_767, 0))
+    number_line(rt, "0 - 65535 = ", numbers::azimuth_difference(0, 65_535))?;
+    number_line(rt, "32768 - 0 = ", numbers::azimuth_difference(32_768, 0))?;
+    number_line(rt, "32767 - 0 = ", numbers::azimuth_difference(32_767, 0))
 }
 
 fn position_line(rt: &HostRuntime, dr: u64, da: u64) -> io::Result<()>
@@ -138,8 +138,8 @@ fn dopplers(rt: &HostRuntime) -> io::Result<()> {
 }
 
 fn corrections(rt: &HostRuntime) -> io::Result<()> {
-    signed_line(rt, "b 3, D 5, f 1 = ", settling::speed_correction(5, 3, 1))?;
-    signed_line(
+    number_line(rt, "b 3, D 5, f 1 = ", settling::speed_correction(5, 3, 1))?;
+    number_line(
         rt,
         "b 3, D -5, f 1 = ",
         settling::speed_correction(-5, 3, 1),
@@ -154,7 +154,7 @@ fn fault_number(answer: Result<(), Fault>) -> u8 {
     }
 }
 
-// The check answers 0 where it passes, which asks that the total is all prices less all discounts.
+// The check passes, and its number is 0, which asks that the total is all prices less all discounts.
 fn pairings(rt: &HostRuntime) -> io::Result<()> {
     let sheet = [10, 20, 12, matching::NONE];
     let crossed = [1, 0];
@@ -186,36 +186,36 @@ fn waits(rt: &HostRuntime) -> io::Result<()> {
     wait_line(rt, 0)
 }
 
-fn gain(of: Gains, updates: u8, confidence: u8, quality: u8, azimuth_degrade: u8) -> u32
+fn gain(listed: Gains, updates: u8, confidence: u8, quality: u8, azimuth_degrade: u8) -> u32
     requires { (confidence ≤ confidence_most) × ((quality ≤ quality_most) × (azimuth_degrade ≤ 1)) }
 {
     let t = track(0, 0, 0, updates);
     let p = report(confidence, quality, azimuth_degrade, 0, 0);
-    of.of(t, p)
+    listed.of(t, p)
 }
 
 // A quality's gains, confidence by confidence.
-fn gain_row(rt: &HostRuntime, name: &str, of: Gains, quality: u8) -> io::Result<()>
+fn gain_row(rt: &HostRuntime, name: &str, listed: Gains, quality: u8) -> io::Result<()>
     requires { quality ≤ quality_most }
 {
     print!(rt; "{name}, quality {quality} =")?;
     for confidence in 0..=records::CONFIDENCE_MOST {
-        let tenths = gain(of, UPDATES, confidence, quality, 0);
+        let tenths = gain(listed, UPDATES, confidence, quality, 0);
         print!(rt; " {tenths}")?;
     }
     println!(rt)
 }
 
-fn gain_rows(rt: &HostRuntime, name: &str, of: Gains) -> io::Result<()> {
+fn gain_rows(rt: &HostRuntime, name: &str, listed: Gains) -> io::Result<()> {
     for quality in 0..=records::QUALITY_MOST {
-        gain_row(rt, name, of, quality)?;
+        gain_row(rt, name, listed, quality)?;
     }
     Ok(())
 }
 
-fn degraded_line(rt: &HostRuntime, name: &str, of: Gains) -> io::Result<()> {
+fn degraded_line(rt: &HostRuntime, name: &str, listed: Gains) -> io::Result<()> {
     let tenths = gain(
-        of,
+        listed,
         UPDATES,
         records::CONFIDENCE_MOST,
         records::QUALITY_MOST,
@@ -224,8 +224,8 @@ fn degraded_line(rt: &HostRuntime, name: &str, of: Gains) -> io::Result<()> {
     println!(rt; "{name}, azimuth-degrade 1 = {tenths}")
 }
 
-fn young_line(rt: &HostRuntime, name: &str, of: Gains) -> io::Result<()> {
-    let tenths = gain(of, 1, 0, 0, 1);
+fn young_line(rt: &HostRuntime, name: &str, listed: Gains) -> io::Result<()> {
+    let tenths = gain(listed, 1, 0, 0, 1);
     println!(rt; "{name}, updates 1 = {tenths}")
 }
 

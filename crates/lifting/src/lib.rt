@@ -1,5 +1,6 @@
 // Passes by which the prices of all pairs rise together. A report's slack is how far the price of any paired track may rise until it
 // meets the score of that report, which is free. So all pairs rise by the least slack, and no search has to go through them for less.
+// One index serves all lists of a pass: of what a loop over iter_mut().zip(..) wrote a proof knows nothing, and a zip is slower.
 #![tactic(auto)]
 
 ghost use Rattle.std.specs.Prelude.{◌≡◌, ℕ, ◌+◌, ◌-◌, ◌%◌, ◌<◌, ◌≤◌, ◌^◌, ◌⊎◌, length, IfSome};

@@ -63,6 +63,7 @@ impl<'a> Sheet<'a> {
 }
 
 // Few enough tracks and reports, and long enough lists, by their lengths.
+#[tactic(auto, unfolding(crate::specs::Answer::sizes_ok, laws::specs::Tests::holds))]
 fn sizes_ok(
     tracks: usize,
     reports: usize,
@@ -73,25 +74,15 @@ fn sizes_ok(
 ) -> bool
     ensures { result ≡ sizes_ok tracks reports cells pairing prices discounts }
 {
-    if tracks > MOST_TRACKS {
-        return false;
-    }
-    if reports > MOST_REPORTS {
-        return false;
-    }
-    if tracks * reports > cells {
-        return false;
-    }
-    if tracks > pairing {
-        return false;
-    }
-    if tracks > prices {
-        return false;
-    }
-    reports <= discounts
+    tracks <= MOST_TRACKS
+        && reports <= MOST_REPORTS
+        && tracks * reports <= cells
+        && tracks <= pairing
+        && tracks <= prices
+        && reports <= discounts
 }
 
-// None, or a score.
+// NONE, or a score.
 fn cell_ok(cell: u32) -> bool
     ensures { result ≡ cell_ok cell }
 {

@@ -1,4 +1,4 @@
-// The engine's passes over a row of the sheet and over its lists. A loop body is one call of a by-value function and has no branch, so
+// The engine's passes over a row of the sheet and over its lists. The body of a loop that runs to its end has no branch, so
 // that it goes by vectors; one index serves all its lists, since a zip tests the end of each, which is slower. Lists have an entry a
 // report; a label says how far a search has to go to reach that report.
 #![tactic(auto)]
@@ -43,7 +43,8 @@ fn choose(a: u32, b: u32, x: u32, y: u32) -> u32
     if b <= a { y } else { x }
 }
 
-// A track at this label offers to every report of its row. The lists come one by one: they lie in three structs of paths.
+// A track at this label offers to every report of its row. The lists come one by one: they lie in a
+// Sheet, in Pairs and in Tree.
 pub fn relax(
     cells: &[u32],
     discounts: &[u32],
@@ -171,7 +172,7 @@ fn raise_one(prices: &mut [u32], track: u32, rise: u32)
 {
     if rise > 0 {
         let place = track as usize;
-        prices[place] = prices[place] + rise;
+        prices[place] += rise;
     }
 }
 

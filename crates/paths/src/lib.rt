@@ -174,6 +174,7 @@ fn end_of(s: Progress, tree: &mut Tree<'_>) -> Ending
 }
 
 // From a track without a report: labels grow until a free report is nearest, or leaving a track out costs no more.
+// It goes by what stands in the lists, as `flip` does, and counts no index.
 fn search(sheet: Sheet, track: u32, pairs: &Pairs<'_>, tree: &mut Tree<'_>) -> Ending
     requires { Searchable sheet track pairs.now tree.old }
     ensures { SameTree tree.old tree.new × Ended sheet.entry track pairs.now result.label result.end tree.new }

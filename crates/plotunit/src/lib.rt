@@ -1,5 +1,5 @@
-// The C border: the four public calls. A slice is a pointer and a count. 0 means served; anything else is the number of the
-// refusal, and then nothing that was lent has changed.
+// The C border: the four public calls. A slice is a pointer and a count. 0 means served, or accepted by the check; anything else is
+// the number of the refusal or fault, and then nothing that was lent has changed.
 #![tactic(auto)]
 
 ghost use Rattle.std.specs.Prelude.{◌≡◌};

@@ -142,16 +142,16 @@ fn raised(low: u64, width: u64, up: bool) -> u64
     requires { low + width < 2 ^ 32 }
     ensures { result ≡ cond up (low + width) low }
 {
-    low + width * (up as u64)
+    low + width * u64::from(up)
 }
 
 // Halves the interval of `width` numbers from `low` on until one is left. The width depends on no test, so that the compiler
-// can write out the nine rounds. The sides of 01's rule, but for (2s-1)^2, are computed once.
+// can write out the nine rounds; it counts no index. The sides of 01's rule, but for (2s-1)^2, are computed once.
 pub fn position_number(dr: u64, da: u64, range_sigma: u8, azimuth_sigma: u8) -> u32
     requires { (dr ≤ range_most) × (da ≤ half_turn) }
     ensures { result ≡ position_of dr da range_sigma azimuth_sigma }
 {
-    let sigmas = square(by_sigma(range_sigma as u64, azimuth_sigma));
+    let sigmas = square(by_sigma(u64::from(range_sigma), azimuth_sigma));
     let off = EIGHTHS_SQUARED
         * (square(by_sigma(dr, azimuth_sigma)) + square(by_sigma(da, range_sigma)));
     let mut low: u64 = 0;

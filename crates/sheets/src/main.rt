@@ -192,7 +192,7 @@ fn run(case: Case, small: bool) -> Tally {
 // Every size up to 5 tracks by 5 reports, twice.
 fn small_sheets(family: Family) -> Tally {
     let mut tally = Tally::default();
-    for k in 0..72usize {
+    for k in 0..2 * SIZES * SIZES {
         let case = Case {
             family,
             tracks: k % SIZES,
