@@ -16,7 +16,7 @@ use queue::insert_all;
 // The engine itself takes this many reports, whatever the public call takes.
 const WIDEST: usize = 200;
 
-// The report has the track's least score, and goes to it from a track of lower price.
+// The report has the track's least score, and goes to it from a track of lower price. Owners mirror the pairing, which is C's.
 fn oust(sheet: Sheet, track: u32, report: u32, pairs: &mut Pairs<'_>)
     requires { Contest sheet track report pairs.old }
     ensures { SamePairs pairs.old pairs.new × (SameNumbers pairs.old pairs.new × Claimed sheet.entry track pairs.old pairs.new) }
@@ -107,7 +107,7 @@ fn assign(sheet: Sheet, pairs: &mut Pairs<'_>, tree: &mut Tree<'_>, slack: &mut 
     }
 }
 
-// The engine on a sheet whose cells were tested, up to WIDEST reports wide; its working lists are its own.
+// The engine on a sheet whose cells were tested, up to WIDEST reports wide; its working lists are its own, the others in C's order.
 pub fn pair_cells(
     sheet: &[u32],
     reports: usize,

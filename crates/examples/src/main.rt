@@ -146,7 +146,7 @@ fn corrections(rt: &HostRuntime) -> io::Result<()> {
     )
 }
 
-// The check's number: 0 where it finds no fault.
+// The check's number, as 01 prints it: 0 where it finds no fault.
 fn fault_number(answer: Result<(), Fault>) -> u8 {
     match answer {
         Ok(()) => 0,

@@ -28,7 +28,7 @@ const CONFIDENCE: u8 = 5;
 // What the returns of the scene are called, in their order.
 const RETURNS: [&str; REPORTS] = ["the ridge's return", "the glider's return"];
 
-// ---- the old filter
+// ---- the old filter; its answers are the pairing's numbers, as in specs/Nearest
 
 fn score_in(row: &[u32], report: u32) -> u32
     ensures { result ≡ score_in row.now report }

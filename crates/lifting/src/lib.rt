@@ -46,7 +46,7 @@ fn if_free(owner: u32, slack: u32) -> u32
     if owner == NONE { slack } else { LEFT_OUT }
 }
 
-// The least slack of a free report.
+// The least slack of a free report. A fold by hand, as in passes.
 pub fn least_slack(owner: &[u32], slack: &[u32]) -> u32
     requires { Beside owner.now slack.now }
     ensures { (result ≤ left_out) × ((k : ℕ) → k < length slack.now → at owner.now k ≡ none → result ≤ at slack.now k) }

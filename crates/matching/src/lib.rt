@@ -96,7 +96,7 @@ fn cells_ok(cells: &[u32]) -> bool
     cells.iter().fold(true, |ok, cell| ok & cell_ok(*cell))
 }
 
-// The fault, where a test fails.
+// The fault, where a test fails. Intake's `demand` says it of a refusal: no crate with code lies below both.
 fn refuse_unless(ok: bool, fault: Fault) -> Result<(), Fault>
     ensures { MatchResult result (λ _. ok ≡ true) (λ told. (ok ≡ false) × (told ≡ fault)) }
 {
@@ -249,7 +249,8 @@ fn judge(sheet: Sheet, pairing: &[u32], prices: &[u32], discounts: &[u32]) -> Re
     refuse_unless(totals_ok(sheet, pairing, prices, discounts), Fault::Totals)
 }
 
-// Whether prices and discounts show that the pairing is best; else the first fault in 01's order. It writes nothing.
+// Whether prices and discounts show that the pairing is best; else the first fault in 01's order. It writes nothing. Its parameters
+// are in C's order.
 pub fn check_pairing(
     tracks: usize,
     reports: usize,

@@ -104,6 +104,7 @@ pub fn sector_of(azimuth: u16) -> u8
     (azimuth / SECTOR_WIDTH) as u8
 }
 
+// A sector is the byte that C lends: a type of 32 numbers would ask more of a caller than the clause does.
 pub fn next_sector(s: u8) -> u8
     requires { s < sectors }
     ensures { (result ≡ next_sector s) × (result < sectors) }

@@ -64,7 +64,7 @@ pub fn relax(
     }
 }
 
-// The least label of an open report, or cap.
+// The least label of an open report, or cap. A fold by hand, as the keys' are: as chains over a zip their goals stayed open.
 fn least(labels: &[u32], closings: &[u32], cap: u32) -> u32
     requires { Labels labels.now closings.now × (cap < 2 ^ 31) }
     ensures { Low labels.now closings.now cap result }
@@ -154,7 +154,7 @@ fn first_open(closings: &[u32]) -> Option<usize>
     closings.iter().position(|closing| *closing == 0)
 }
 
-// The first open report from `front` on, or the length.
+// The first open report from `front` on, or the length, the search's end mark.
 pub fn open_from(closings: &[u32], front: usize) -> usize
     requires { front ≤ length closings.now }
     ensures { (front ≤ result) × ((result ≤ length closings.now) × ((k : ℕ) → k < result → front ≤ k → at closings.now k ≡ 0 → ⊥)) }

@@ -15,7 +15,7 @@ use sector::Counts;
 
 const SERVED: u8 = 0;
 
-// The counts, in the order in which C reads them.
+// The counts, in the order in which C reads them; batchrun puts them into a line.
 fn write_counts(counts: &mut [u32; 7], c: Counts)
     ensures { counts.new ≡ count_list c }
 {
@@ -92,7 +92,7 @@ pub extern "C" fn plot_score_sheet(
     }
 }
 
-// A fault by its number, for C.
+// A fault by its number, for C, and 0 for none.
 fn told(answer: Result<(), Fault>) -> u8
     ensures { result ≡ check_number answer }
 {

@@ -214,7 +214,7 @@ fn age(t: Track) -> u32
     updates_age(t.updates) + u32::from(t.misses != 0)
 }
 
-// Two where the report's confidence is low, one more where the track's is.
+// Two where the report's confidence is low, one more where the track's is: of confidence and quality 01 has a rule each.
 #[tactic(auto, unfolding(crate::specs::Score::confidence_trust, records::specs::Fields::sure_confidence, records::specs::Fields::sure_quality))]
 fn confidence_trust(t: Track, p: Report) -> u32
     ensures { result ≡ confidence_trust t p }

@@ -87,7 +87,7 @@ struct Worksheet<'a> {
     prices: &'a mut [u32],
 }
 
-// The score of a due track's pair, or 0 where it has none.
+// The score of a due track's pair, or 0 where it has none: in the check's totals a track left out counts otherwise.
 fn pair_score(sheet: &[u32], reports: usize, pairing: &[u32], track: usize) -> u32
     requires summable { Summable reports sheet.now pairing.now }
     requires track_in { track < length pairing.now }
