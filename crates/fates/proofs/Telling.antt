@@ -3,12 +3,12 @@ use Prim.Native.Nat.{ℕ, ◌+◌, ◌≤◌, ◌<◌}
 use mathlib.Core.Path.{◌≡◌, refl, sym, ap, ◌∙◌}
 use mathlib.Core.Bool.{Bool, true, false, cond}
 use mathlib.Core.List.{List, [], ◌∷◌}
-use Rattle.std.proofs.Common.{Option, Some, None}
+use Rattle.std.proofs.Common.{Some, None}
 use Rattle.std.specs.Option.{unwrap_or, option_map}
 use Rattle.std.specs.List.{position, count_by}
-use Rattle.std.proofs.lemmas.List.Recursion.{is_position_or_len, is_count_by}
-use Rattle.laws.specs.Lists.{first_index, indices_from, count}
-use Rattle.laws.proofs.Search.{first_upto}
+use Rattle.std.proofs.lemmas.List.Recursion.{is_count_by}
+use Rattle.laws.specs.Lists.{first_index, indices_from, count, found_below}
+use Rattle.laws.proofs.Search.{first_upto, position_found}
 use native.Mathlib.Omega.{arith}
 use borrow.Author.Tests.{ltb-true, ltb-false, lt-ltb, le-ltb, eqb-true, eqb-false, eq-eqb, ne_eqb}
 use lib.Dec.{eqb, leb, ltb}
@@ -28,19 +28,17 @@ eqb_sym a b = go (eqb b a) refl
     go true e = eq-eqb _ _ (sym (eqb-true b a e))
     go false e = ne_eqb _ _ (λ z. eqb-false b a e (sym z))
 
--- an index that lies in a list so long, or none
-abbrev within : (long index : ℕ) → Option ℕ
-within long index = cond (ltb index long) (Some index) None
-
 -- an index that is there, and one that is not
-found_within : (long index : ℕ) {i : ℕ} → Some i ≡ within long index → (i ≡ index) × (ltb index long ≡ true)
+found_within : (long index : ℕ) {i : ℕ} → Some i ≡ found_below index long → (i ≡ index) × (ltb index long ≡ true)
+unfolding found_below
 found_within long index {i} e = go (ltb index long) refl
   where
     go : (b : Bool) → ltb index long ≡ b → (i ≡ index) × (ltb index long ≡ true)
     go true q = let some : Some i ≡ Some index = rw q at e in (cc, q)
     go false q = let none : Some i ≡ None = rw q at e in absurd (cc)
 
-not_within : (long index : ℕ) → None ≡ within long index → ltb index long ≡ false
+not_within : (long index : ℕ) → None ≡ found_below index long → ltb index long ≡ false
+unfolding found_below
 not_within long index e = go (ltb index long) refl
   where
     go : (b : Bool) → ltb index long ≡ b → ltb index long ≡ false
@@ -49,10 +47,13 @@ not_within long index e = go (ltb index long) refl
 
 -- std's words for the first place of a kind, and for how many there are
 module _ {A : Type 0} (p q : A → Bool) (same : (x : A) → p x ≡ q x) where
-  position_within : (xs : List A) → position p xs ≡ within (length xs) (first_index q xs)
+  position_same : (xs : List A) → position p xs ≡ found_below (first_index q xs) (length xs)
   unfolding first_index
-  position_within xs =
-      rw (sym (is_position_or_len (first_index q) p refl (λ x xs. rw (same x) (ap (λ n. cond (q x) 0 n) (omega arith))) xs))
+  position_same xs = rw (position_found p xs) (ap (λ (n : ℕ). found_below n (length xs)) (go xs))
+    where
+      go : (xs : List A) → first_index p xs ≡ first_index q xs
+      go [] = refl
+      go (x ∷ xs) = rw (same x, go xs) refl
 
   pub count_by_count : (xs : List A) → count_by p xs ≡ count q xs
   unfolding indices_from
@@ -63,13 +64,13 @@ module _ {A : Type 0} (p q : A → Bool) (same : (x : A) → p x ≡ q x) where
       go false xs = count_from q 1 0 xs
 
 -- the due track that has a report, and the lowest free slot
-position_owner : (P : List ℕ) (j : ℕ) → position (λ number. eqb number j) P ≡ within (length P) (owner_of P j)
+position_owner : (P : List ℕ) (j : ℕ) → position (λ number. eqb number j) P ≡ found_below (owner_of P j) (length P)
 unfolding owner_of
-position_owner P j = position_within _ (eqb j) (λ number. eqb_sym number j) P
+position_owner P j = position_same _ (eqb j) (λ number. eqb_sym number j) P
 
-position_free : (table : List (List ℕ)) → position is_free table ≡ within (length table) (free_slot table)
+position_free : (table : List (List ℕ)) → position is_free table ≡ found_below (free_slot table) (length table)
 unfolding free_slot
-position_free table = position_within is_free is_free (λ slot. refl) table
+position_free table = position_found is_free table
 
 pub owner_found : (P : List ℕ) (j : ℕ) {rank : ℕ} → Some rank ≡ position (λ number. eqb number j) P → (rank ≡ owner_of P j) × (ltb (owner_of P j) (length P) ≡ true)
 owner_found P j e = found_within (length P) (owner_of P j) (e ∙ position_owner P j)
@@ -87,18 +88,18 @@ none_free table e = ltb-false _ _ (not_within (length table) (free_slot table) (
 
 -- slots that are known not to be free may be passed
 pub position_past : (table : List (List ℕ)) (from : ℕ) → from ≤ free_slot table → position is_free table ≡ option_map (λ k. from + k) (position is_free (drop from table))
-unfolding free_slot
+unfolding free_slot found_below
 position_past table from h =
     let ahead : from + free_slot (drop from table) ≡ free_slot table = (passed_from is_free table from h).ahead in
     rw (position_free table, position_free (drop from table)) (go (ltb (free_slot (drop from table)) (length (drop from table))) refl ahead)
   where
-    go : (b : Bool) → ltb (free_slot (drop from table)) (length (drop from table)) ≡ b → from + free_slot (drop from table) ≡ free_slot table → within (length table) (free_slot table) ≡ option_map (λ k. from + k) (cond b (Some (free_slot (drop from table))) None)
+    go : (b : Bool) → ltb (free_slot (drop from table)) (length (drop from table)) ≡ b → from + free_slot (drop from table) ≡ free_slot table → found_below (free_slot table) (length table) ≡ option_map (λ k. from + k) (cond b (Some (free_slot (drop from table))) None)
     go true q ahead = rw (lt-ltb (free_slot table) (length table) (omega (arith, ltb-true _ _ q, length-drop from table, ahead)), ahead)
     go false q ahead = rw (le-ltb (free_slot table) (length table) (omega (arith, ltb-false _ _ q, length-drop from table, ahead, h, first_upto is_free table)))
 
 -- or the table's length
 pub lowest_or_length : (table : List (List ℕ)) → unwrap_or (position is_free table) (length table) ≡ free_slot table
-unfolding free_slot
+unfolding free_slot found_below
 lowest_or_length table = rw (position_free table) (go (ltb (free_slot table) (length table)) refl)
   where
     go : (b : Bool) → ltb (free_slot table) (length table) ≡ b → unwrap_or (cond b (Some (free_slot table)) None) (length table) ≡ free_slot table
