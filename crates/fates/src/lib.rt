@@ -5,7 +5,7 @@ ghost use Rattle.std.specs.Prelude.{◌≡◌, ◌++◌, ◌≤◌, ◌<◌, ◌
 ghost use Rattle.numbers.specs.Scales.{sectors};
 ghost use Rattle.records.specs.Bytes.{is_free};
 ghost use Rattle.intake.specs.Refusals.{most_slots, most_batch};
-ghost use Rattle.fates.specs.Fates.{handed_in, free_slot, is_shown, no_track, told_unpaired, after_unpaired, fate_number};
+ghost use Rattle.fates.specs.Fates.{handed_in, free_slot, is_shown, no_track, told_unpaired, after_unpaired};
 ghost use Rattle.fates.specs.Fates.{told_of, after_report, started_table, fates_of, slots_of, shown_of, count_of, Tellable, RoomToTell};
 
 use intake::Call;
@@ -169,12 +169,9 @@ pub fn tell_reports(
 }
 
 // How many of the reports have a fate.
-pub fn count_fate(fates: &[u8], fate: Fate) -> u32
+pub fn count_fate(fates: &[u8], fate: u8) -> u32
     requires { length fates.now ≤ most_batch }
-    ensures { result ≡ count_of (fate_number fate) fates.now }
+    ensures { result ≡ count_of fate fates.now }
 {
-    fates
-        .iter()
-        .map(|told| u32::from(*told == fate as u8))
-        .sum()
+    fates.iter().map(|told| u32::from(*told == fate)).sum()
 }

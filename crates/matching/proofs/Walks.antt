@@ -40,12 +40,15 @@ pub all_each : (p : ℕ → Bool) (xs : List ℕ) → list_all p xs ≡ each (le
 all_each p [] = sym (each_none _)
 all_each p (x ∷ xs) = rw (all_each p xs) (sym (each_front (λ i. p (at (x ∷ xs) i)) (length xs)))
 
-fold_from : (p : ℕ → Bool) (b : Bool) (xs : List ℕ) → fold (λ ok x. ok && p x) b xs ≡ (b && each (length xs) (λ i. p (at xs i)))
-fold_from p b [] = sym (rw (each_none (λ i. p (at [] i))) (and-true b))
-fold_from p b (x ∷ xs) = fold_from p (b && p x) xs ∙ and_assoc b (p x) _ ∙ rw (each_front (λ i. p (at (x ∷ xs) i)) (length xs)) refl
+fold_all : {X : Type 0} (p : X → Bool) (b : Bool) (xs : List X) → fold (λ ok x. ok && p x) b xs ≡ (b && list_all p xs)
+fold_all p b [] = sym (and-true b)
+fold_all p b (x ∷ xs) = fold_all p (b && p x) xs ∙ and_assoc b (p x) _
+
+pub all_folds : {X : Type 0} (p : X → Bool) (xs : List X) → list_all p xs ≡ fold (λ ok x. ok && p x) true xs
+all_folds p xs = sym (fold_all p true xs)
 
 pub fold_each : (p : ℕ → Bool) (xs : List ℕ) → fold (λ ok x. ok && p x) true xs ≡ each (length xs) (λ i. p (at xs i))
-fold_each p xs = fold_from p true xs
+fold_each p xs = fold_all p true xs ∙ all_each p xs
 
 -- the same of two lists side by side
 pairs_from : (p : ℕ → ℕ → Bool) (b : Bool) (xs ys : List ℕ) → length xs ≡ length ys → fold (λ ok z. ok && p z.0 z.1) b (zip xs ys) ≡ (b && each (length xs) (λ i. p (at xs i) (at ys i)))

@@ -158,23 +158,46 @@ fn numbers_ok(numbers: &[u32]) -> bool
     numbers.iter().all(|x| *x <= LEFT_OUT)
 }
 
-// The pair is not admissible, or the price less the discount is not above its score. A sum past 32 bits is above every price; `|`
-// has no branch, so that a row goes by vectors.
+// The pair is not admissible, which shows at sight, or the price less the discount is not above its score.
 fn pair_ok(price: u32, score: u32, discount: u32) -> bool
     ensures { result ≡ pair_ok price score discount }
 {
-    (score == NONE) | (price <= score.saturating_add(discount))
+    score == NONE || u64::from(price) <= u64::from(score) + u64::from(discount)
 }
 
-// The pairs of a track.
-fn row_ok(price: u32, scores: &[u32], discounts: &[u32]) -> bool
-    ensures { result ≡ fold (λ ok pair. ok && pair_ok price pair.0 pair.1) true (zip scores.now discounts.now) }
+// The same with no branch, for vectors: NONE is above every price, so that one test says both.
+fn lane_ok(price: u32, score: u32, discount: u32) -> bool
+    ensures { result ≡ pair_ok price score discount }
+{
+    price.saturating_sub(discount) <= score
+}
+
+// A row of fewer pairs fills no vector.
+const VECTOR: usize = 8;
+
+// The pairs of a track, one by one.
+fn short_row_ok(price: u32, scores: &[u32], discounts: &[u32]) -> bool
+    ensures { result ≡ list_all (λ pair. pair_ok price pair.0 pair.1) (zip scores.now discounts.now) }
 {
     scores
         .iter()
         .zip(discounts)
+        .all(|(score, discount)| pair_ok(price, *score, *discount))
+}
+
+// The pairs of a track. A fold with no way out goes by vectors.
+#[tactic(auto, using(crate::proofs::Walks::all_folds))]
+fn row_ok(price: u32, scores: &[u32], discounts: &[u32]) -> bool
+    ensures { result ≡ fold (λ ok pair. ok && pair_ok price pair.0 pair.1) true (zip scores.now discounts.now) }
+{
+    if scores.len() < VECTOR {
+        return short_row_ok(price, scores, discounts);
+    }
+    scores
+        .iter()
+        .zip(discounts)
         .fold(true, |ok, (score, discount)| {
-            ok & pair_ok(price, *score, *discount)
+            ok & lane_ok(price, *score, *discount)
         })
 }
 

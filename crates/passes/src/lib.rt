@@ -37,7 +37,7 @@ fn offer(cell: u32, discount: u32, label: u32, price: u32) -> u32
 }
 
 // x where a is below b, else y. In a vector, a test by `at most` takes the lesser of the two, which `relax` has at hand.
-fn choose(a: u32, b: u32, x: u32, y: u32) -> u32
+pub fn choose(a: u32, b: u32, x: u32, y: u32) -> u32
     ensures { (a < b → result ≡ x) × (b ≤ a → result ≡ y) }
 {
     if b <= a { y } else { x }

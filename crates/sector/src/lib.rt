@@ -65,12 +65,12 @@ impl Answer<'_> {
     {
         let fates = &self.fates[..reports];
         Counts {
-            paired: fates::count_fate(fates, Fate::Paired),
+            paired: fates::count_fate(fates, Fate::Paired as u8),
             coasted: missed.coasted,
             dropped: missed.dropped,
-            started: fates::count_fate(fates, Fate::Started),
-            weak: fates::count_fate(fates, Fate::Weak),
-            full: fates::count_fate(fates, Fate::Full),
+            started: fates::count_fate(fates, Fate::Started as u8),
+            weak: fates::count_fate(fates, Fate::Weak as u8),
+            full: fates::count_fate(fates, Fate::Full as u8),
             score_sum: scores,
         }
     }
