@@ -158,24 +158,24 @@ fn numbers_ok(numbers: &[u32]) -> bool
     numbers.iter().all(|x| *x <= LEFT_OUT)
 }
 
-// The pair is not admissible, which shows at sight, or the price less the discount is not above its score.
+// The pair is not admissible, which most are and one glance tells, or the price less the discount is not above its score.
 fn pair_ok(price: u32, score: u32, discount: u32) -> bool
     ensures { result ≡ pair_ok price score discount }
 {
     score == NONE || u64::from(price) <= u64::from(score) + u64::from(discount)
 }
 
-// The same with no branch, for vectors: NONE is above every price, so that one test says both.
+// The same with no branch, for vectors: no price is above NONE, so that one test says both.
 fn lane_ok(price: u32, score: u32, discount: u32) -> bool
     ensures { result ≡ pair_ok price score discount }
 {
     price.saturating_sub(discount) <= score
 }
 
-// A row of fewer pairs fills no vector.
+// The loop by vectors takes so many pairs at a time.
 const VECTOR: usize = 8;
 
-// The pairs of a track, one by one.
+// The pairs of a track, one by one to the first fault: with few of them that is quicker than by vectors.
 fn short_row_ok(price: u32, scores: &[u32], discounts: &[u32]) -> bool
     ensures { result ≡ list_all (λ pair. pair_ok price pair.0 pair.1) (zip scores.now discounts.now) }
 {
